@@ -1,0 +1,70 @@
+use mathlib.Core.Path.{refl}
+use borrow.Author.Needs.{needs}
+use Rattle.listing.specs.Forms.{forms, fieldsOf}
+use Rattle.text.specs.Text.{yield, location, name}
+use Rattle.listing.specs.declared.ExpressionLine.{ExpressionLine}
+use Rattle.listing.specs.declared.Line.{Line}
+use Rattle.text.specs.declared.LocationRead.{LocationRead}
+use Rattle.text.specs.declared.PlaceRead.{PlaceRead}
+use Rattle.listing.proofs.Lines.{form-got, form-failed, map-got, map-failed, with-unplaced, with-failed, with-got}
+use Rattle.text.proofs.Places.{location-keeps, name-keeps}
+use Rattle.text.proofs.Told.{told-got, told-failed, location-tells, place-tells}
+use Rattle.listing.proofs.forms.read_variable.Statement.{statement}
+use Rattle.listing.proofs.forms.read_variable.Tie as tie
+
+read-location-requires : tie.Need-read-location-requires
+read-location-requires c κs = search needs
+
+enum-known-w : tie.Need-enum-known-w
+enum-known-w c = search needs
+
+enum-told : tie.Need-enum-told
+enum-told c = search needs
+
+returns : tie.Need-returns
+unfolding fieldsOf
+returns c =
+    let a = c .before .before .before .before .args in
+    let s = a .listing .now in
+    form-failed (fieldsOf forms 118) s (a .at) (map-failed Line.Expression _ s (a .at) (with-unplaced name ExpressionLine.Variable s (a .at) (told-failed LocationRead.Got LocationRead.Failed location-tells location s (a .at) (c .before .before .read-location .ensures) (c .enum-told .given .1))))
+
+read-name-requires : tie.Need-read-name-requires
+read-name-requires c κs = search needs
+
+enum-known-x : tie.Need-enum-known-x
+enum-known-x c = search needs
+
+enum-told-2 : tie.Need-enum-told-2
+enum-told-2 c = search needs
+
+returns-2 : tie.Need-returns-2
+unfolding fieldsOf
+returns-2 c =
+    let a = c .before .before .before .before .before .before .before .before .args in
+    let s = a .listing .now in
+    form-failed (fieldsOf forms 118) s (a .at) (map-failed Line.Expression _ s (a .at) (with-failed name ExpressionLine.Variable s (a .at) (told-got LocationRead.Got LocationRead.Failed location-tells location location-keeps s (a .at) (c .before .before .before .before .before .before .read-location .ensures) (c .before .before .before .before .w .given .1)) (told-failed PlaceRead.Got PlaceRead.Failed place-tells name s _ (c .before .before .read-name .ensures) (c .enum-told2 .given .1))))
+
+end-line-requires : tie.Need-end-line-requires
+end-line-requires c κs = search needs
+
+returns-3 : tie.Need-returns-3
+unfolding fieldsOf yield
+returns-3 c =
+    let a = c .before .before .before .before .before .before .before .before .before .before .args in
+    let s = a .listing .now in
+    form-got (fieldsOf forms 118) s (a .at) (map-got Line.Expression _ s (a .at) (with-got name ExpressionLine.Variable s (a .at) (told-got LocationRead.Got LocationRead.Failed location-tells location location-keeps s (a .at) (c .before .before .before .before .before .before .before .before .read-location .ensures) (c .before .before .before .before .before .before .w .given .1)) (told-got PlaceRead.Got PlaceRead.Failed place-tells name name-keeps s _ (c .before .before .before .before .read-name .ensures) (c .before .before .x .given .1)))) (c .end-line .ensures) refl
+
+pub read-variable-spec : {M : Type 1} → statement M
+read-variable-spec =
+    tie.close
+    (tie.spec
+    read-location-requires
+    enum-known-w
+    enum-told
+    returns
+    read-name-requires
+    enum-known-x
+    enum-told-2
+    returns-2
+    end-line-requires
+    returns-3)

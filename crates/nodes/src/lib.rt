@@ -1,0 +1,105 @@
+// The nodes of a contract as rows of a table: what a walk over them needs.
+ghost use mathlib.Core.Path.{_≡_};
+ghost use Rattle.listing.specs.declared.Line.{Line};
+ghost use Rattle.ast.specs.Tree.{fault};
+ghost use Rattle.rows.specs.Rows.{lineIn};
+ghost use Rattle.nodes.specs.declared.Answer.{Answer};
+ghost use Rattle.nodes.specs.Stands.{Holds, walked};
+use ast::CompileError;
+use ast::ErrorKind;
+use ast::Location;
+use listing::ExpressionLine;
+use listing::FactorLine;
+use listing::Line;
+use listing::StatementLine;
+use rows::row;
+
+// What a walk over a node answers: the row after it, or the first fault.
+pub enum Answer {
+    Pass(usize),
+    Fault(CompileError),
+}
+
+// A fault: its kind and its place.
+pub fn refuse(kind: ErrorKind, loc: Location) -> Answer
+    ensures { λ r. ⌜ r ≡ Answer.Fault (fault kind loc) ⌝ }
+{
+    Answer::Fault(CompileError { loc, kind })
+}
+
+fn nowhere() -> Location {
+    Location {
+        start: 0,
+        end: 0,
+        line: 0,
+        column: 0,
+    }
+}
+
+// The line of an expression.
+pub fn expression_at(table: &[u32], i: usize) -> ExpressionLine
+    requires { ⌜ Holds Line.Expression (now table) i ⌝ }
+    ensures { λ r. ⌜ lineIn (now (table .entry)) i ≡ Line.Expression r ⌝ }
+{
+    let l = row(table, i);
+    match l {
+        Line::Expression(e) => e,
+        Line::Contract(_, _) => ExpressionLine::ByteExpression(nowhere()),
+        Line::Declaration(_) => ExpressionLine::ByteExpression(nowhere()),
+        Line::StackParam(_, _, _) => ExpressionLine::ByteExpression(nowhere()),
+        Line::Block(_) => ExpressionLine::ByteExpression(nowhere()),
+        Line::Statement(_) => ExpressionLine::ByteExpression(nowhere()),
+        Line::Factor(_) => ExpressionLine::ByteExpression(nowhere()),
+    }
+}
+
+// The line of a factor.
+pub fn factor_at(table: &[u32], i: usize) -> FactorLine
+    requires { ⌜ Holds Line.Factor (now table) i ⌝ }
+    ensures { λ r. ⌜ lineIn (now (table .entry)) i ≡ Line.Factor r ⌝ }
+{
+    let l = row(table, i);
+    match l {
+        Line::Factor(f) => f,
+        Line::Contract(_, _) => FactorLine::SingleSigFactor(nowhere()),
+        Line::Declaration(_) => FactorLine::SingleSigFactor(nowhere()),
+        Line::StackParam(_, _, _) => FactorLine::SingleSigFactor(nowhere()),
+        Line::Block(_) => FactorLine::SingleSigFactor(nowhere()),
+        Line::Statement(_) => FactorLine::SingleSigFactor(nowhere()),
+        Line::Expression(_) => FactorLine::SingleSigFactor(nowhere()),
+    }
+}
+
+// The line of a statement.
+pub fn statement_at(table: &[u32], i: usize) -> StatementLine
+    requires { ⌜ Holds Line.Statement (now table) i ⌝ }
+    ensures { λ r. ⌜ lineIn (now (table .entry)) i ≡ Line.Statement r ⌝ }
+{
+    let l = row(table, i);
+    match l {
+        Line::Statement(s) => s,
+        Line::Contract(_, _) => StatementLine::VerifyStatement(nowhere()),
+        Line::Declaration(_) => StatementLine::VerifyStatement(nowhere()),
+        Line::StackParam(_, _, _) => StatementLine::VerifyStatement(nowhere()),
+        Line::Block(_) => StatementLine::VerifyStatement(nowhere()),
+        Line::Expression(_) => StatementLine::VerifyStatement(nowhere()),
+        Line::Factor(_) => StatementLine::VerifyStatement(nowhere()),
+    }
+}
+
+// How many statements a block has.
+pub fn block_at(table: &[u32], i: usize) -> u32
+    requires { ⌜ Holds Line.Block (now table) i ⌝ }
+    ensures { λ r. ⌜ lineIn (now (table .entry)) i ≡ Line.Block r ⌝ }
+{
+    let l = row(table, i);
+    match l {
+        Line::Block(n) => n,
+        Line::Contract(_, _) => 0,
+        Line::Declaration(_) => 0,
+        Line::StackParam(_, _, _) => 0,
+        Line::Statement(_) => 0,
+        Line::Expression(_) => 0,
+        Line::Factor(_) => 0,
+    }
+}

@@ -1,0 +1,28 @@
+use mathlib.Core.Path.{sym, _∙_}
+use borrow.Author.Tests.{lt-ltb, le-ltb, not-true, not-false}
+use Rattle.reader.specs.Walk.{fitsHere}
+use borrow.Author.Needs.{needs}
+use Rattle.reader.proofs.tree.fits_here.Statement.{statement}
+use Rattle.reader.proofs.tree.fits_here.Tie as tie
+
+has-room-requires : tie.Need-has-room-requires
+has-room-requires c κs = search needs
+
+returns : tie.Need-returns
+unfolding fitsHere
+returns c = rw (sym (c .before .has-room .ensures) ∙ not-true _ (c .if1 .taken), fitsHere)
+
+returns-2 : tie.Need-returns-2
+unfolding fitsHere
+returns-2 c = rw (sym (c .before .before .has-room .ensures) ∙ not-false _ (c .before .if1 .left), le-ltb _ _ (c .if2 .taken), fitsHere)
+
+within-ceilings-requires : tie.Need-within-ceilings-requires
+within-ceilings-requires c κs = search needs
+
+returns-3 : tie.Need-returns-3
+unfolding fitsHere
+returns-3 c = rw (sym (c .before .before .before .has-room .ensures) ∙ not-false _ (c .before .before .if1 .left), lt-ltb _ _ (c .before .if2 .left), fitsHere, c .within-ceilings .ensures)
+
+pub fits-here-spec : {M : Type 1} → statement M
+fits-here-spec =
+    tie.close (tie.spec has-room-requires returns returns-2 within-ceilings-requires returns-3)

@@ -1,0 +1,178 @@
+-- The reading by line numbers, over a table of rows: the lines of the tree, without the tree.
+-- A node is a line and its parts, the nodes that follow it. How many and of which kinds is said in `countOf` and `partKind`.
+use Prim.Native.Nat.{ℕ, zero, suc, _+_, _*_, _-_}
+use mathlib.Core.Bool.{Bool, true, false, _&&_}
+use mathlib.Core.List.{List}
+use lib.Dec.{ltb, eqb}
+use Rattle.reader.specs.declared.Lines.{Lines}
+use Rattle.reader.specs.declared.Asked.{Asked}
+use Rattle.reader.specs.declared.Asked.the-variants.{Found, Malformed, End}
+use Rattle.reader.specs.declared.Step.{Step}
+use Rattle.reader.specs.declared.Step.the-variants.{Next as Onward, Refused}
+use Rattle.reader.specs.declared.tree.Left.{Left}
+use Rattle.reader.specs.declared.tree.Due.{Due}
+use Rattle.reader.specs.Ast.{StatementLine, ExpressionLine, FactorLine, Line, ErrorKind, CompileError, MalformedLine, UnexpectedLine, CeilingPassed, fault}
+use Rattle.reader.specs.Source.{atLine}
+use Rattle.reader.specs.Ceilings.{maxLines, withinCeilings}
+use Rattle.reader.specs.Table.{asked}
+
+-- the kinds of line, by where they may stand, in such an order that a part's kind is below its line's or stands a level deeper
+abbrev pub expressionKind : ℕ
+expressionKind = 0
+
+abbrev pub factorKind : ℕ
+factorKind = 1
+
+abbrev pub blockKind : ℕ
+blockKind = 2
+
+abbrev pub statementKind : ℕ
+statementKind = 3
+
+abbrev pub itemKind : ℕ
+itemKind = 4
+
+abbrev pub declarationKind : ℕ
+declarationKind = 5
+
+abbrev pub contractKind : ℕ
+contractKind = 6
+
+abbrev pub kindOf : Line → ℕ
+kindOf (Line.Contract g n) = contractKind
+kindOf (Line.Declaration n) = declarationKind
+kindOf (Line.StackParam w t x) = itemKind
+kindOf (Line.Block n) = blockKind
+kindOf (Line.Statement l) = statementKind
+kindOf (Line.Expression l) = expressionKind
+kindOf (Line.Factor l) = factorKind
+
+-- how many parts a line has; a T line, its declarations
+abbrev pub countOf : Line → ℕ
+countOf (Line.Contract g n) = n
+countOf (Line.Declaration n) = n
+countOf (Line.StackParam w t x) = 0
+countOf (Line.Block n) = n
+countOf (Line.Statement (StatementLine.IfStatement w false)) = 2
+countOf (Line.Statement (StatementLine.IfStatement w true)) = 3
+countOf (Line.Statement (StatementLine.LocktimeStatement w o v)) = 0
+countOf (Line.Statement (StatementLine.VerifyStatement w)) = 1
+countOf (Line.Statement (StatementLine.ExpressionStatement w)) = 1
+countOf (Line.Expression (ExpressionLine.Variable w x)) = 0
+countOf (Line.Expression (ExpressionLine.NumberLiteral w v)) = 0
+countOf (Line.Expression (ExpressionLine.BooleanLiteral w b)) = 0
+countOf (Line.Expression (ExpressionLine.StringLiteral w x m)) = 0
+countOf (Line.Expression (ExpressionLine.LogicalExpression w o)) = 2
+countOf (Line.Expression (ExpressionLine.CompareExpression w o)) = 2
+countOf (Line.Expression (ExpressionLine.BinaryMathExpression w o)) = 2
+countOf (Line.Expression (ExpressionLine.UnaryMathExpression w o)) = 1
+countOf (Line.Expression (ExpressionLine.UnaryCryptoExpression w o)) = 1
+countOf (Line.Expression (ExpressionLine.ByteExpression w)) = 1
+countOf (Line.Expression (ExpressionLine.CheckSigExpression w)) = 1
+countOf (Line.Factor (FactorLine.SingleSigFactor w)) = 2
+countOf (Line.Factor (FactorLine.MultiSigFactor w m n)) = n
+
+-- the kinds of its parts: of a statement, the condition and then blocks
+abbrev pub statementPart : ℕ → ℕ
+statementPart zero = expressionKind
+statementPart (suc k) = blockKind
+
+abbrev pub expressionPart : ExpressionLine → ℕ
+expressionPart (ExpressionLine.Variable w x) = expressionKind
+expressionPart (ExpressionLine.NumberLiteral w v) = expressionKind
+expressionPart (ExpressionLine.BooleanLiteral w b) = expressionKind
+expressionPart (ExpressionLine.StringLiteral w x m) = expressionKind
+expressionPart (ExpressionLine.LogicalExpression w o) = expressionKind
+expressionPart (ExpressionLine.CompareExpression w o) = expressionKind
+expressionPart (ExpressionLine.BinaryMathExpression w o) = expressionKind
+expressionPart (ExpressionLine.UnaryMathExpression w o) = expressionKind
+expressionPart (ExpressionLine.UnaryCryptoExpression w o) = expressionKind
+expressionPart (ExpressionLine.ByteExpression w) = expressionKind
+expressionPart (ExpressionLine.CheckSigExpression w) = factorKind
+
+abbrev pub factorPart : FactorLine → ℕ
+factorPart (FactorLine.SingleSigFactor w) = expressionKind
+factorPart (FactorLine.MultiSigFactor w m n) = factorKind
+
+-- the kind of the part numbered k, from 0
+abbrev pub partKind : Line → ℕ → ℕ
+partKind (Line.Contract g n) k = declarationKind
+partKind (Line.Declaration n) k = itemKind
+partKind (Line.StackParam w t x) k = expressionKind
+partKind (Line.Block n) k = statementKind
+partKind (Line.Statement l) k = statementPart k
+partKind (Line.Expression l) k = expressionPart l
+partKind (Line.Factor l) k = factorPart l
+
+-- whether a level is left for a node of this kind
+unfoldable pub hasRoom : ℕ → Left → Bool
+hasRoom k left = elim (ltb k blockKind) [
+  | true ↦ ltb 0 (left .expressions)
+  | false ↦ elim (eqb k blockKind) [ true ↦ ltb 0 (left .blocks) | false ↦ true ]
+]
+
+-- the levels left for its parts
+unfoldable pub below : ℕ → Left → Left
+below k left = elim (ltb k blockKind) [
+  | true ↦ record { blocks = left .blocks; expressions = left .expressions - 1 }
+  | false ↦ elim (eqb k blockKind) [ true ↦ record { blocks = left .blocks - 1; expressions = left .expressions } | false ↦ left ]
+]
+
+-- the number, from 1, of the line numbered i from 0; no line past the one after the last allowed is asked for
+unfoldable pub lineNumber : ℕ → ℕ
+lineNumber i = elim (ltb i maxLines) [ true ↦ i + 1 | false ↦ maxLines + 1 ]
+
+-- a refusal at the line numbered i
+abbrev pub refusal : ErrorKind → ℕ → CompileError
+refusal e i = fault e (atLine (lineNumber i))
+
+-- whether a line of the kind that is due passes no ceiling
+unfoldable pub fitsHere : ℕ → Left → ℕ → Line → Bool
+fitsHere k left i l = hasRoom k left && (ltb i maxLines && withinCeilings l)
+
+-- where a line of the kind k is due: 2, 3, 4, else the line
+unfoldable pub due : ℕ → Left → ℕ → Asked → Due
+due k left i (Found l) = elim (eqb (kindOf l) k) [
+  | true ↦ elim (fitsHere k left i l) [ true ↦ Due.Stands l | false ↦ Due.Refused (refusal CeilingPassed i) ]
+  | false ↦ Due.Refused (refusal UnexpectedLine i)
+]
+due k left i Malformed = Due.Refused (refusal MalformedLine i)
+due k left i End = Due.Refused (refusal UnexpectedLine i)
+
+-- from the line numbered i on
+abbrev pub Walk : Type 0
+Walk = ℕ → Step
+
+-- one walk, then another
+unfoldable pub onward : Step → Walk → Step
+onward (Onward j) w = w j
+onward (Refused x) w = Refused x
+
+-- m parts from the k-th on
+unfoldable pub each : (ℕ → Walk) → ℕ → ℕ → Walk
+each part zero k i = Onward i
+each part (suc m) k i = onward (part k i) (λ j. each part m (suc k) j)
+
+-- the line that stands, and what it opens
+unfoldable pub opened : Due → (Line → Step) → Step
+opened (Due.Stands l) w = w l
+opened (Due.Refused x) w = Refused x
+
+-- the parts of the line l, `one` being a node of a kind
+unfoldable pub partsOf : (ℕ → Walk) → Line → Walk
+partsOf one l i = each (λ m. one (partKind l m)) (countOf l) 0 i
+
+-- a node of the kind k, at most f lines deep
+unfoldable pub node : ℕ → List ℕ → Lines → Left → ℕ → Walk
+node zero t n left k i = Refused (refusal CeilingPassed i)
+node (suc f) t n left k i = opened (due k left i (asked t n i)) (λ l. partsOf (λ q j. node f t n (below k left) q j) l (i + 1))
+
+-- a bound on how deep a node goes
+abbrev pub depthOf : ℕ → Left → ℕ
+depthOf k left = 8 * (left .blocks + left .expressions) + k
+
+-- nothing may follow: 2 or 3
+unfoldable pub finished : ℕ → Asked → Step
+finished i (Found l) = Refused (refusal UnexpectedLine i)
+finished i Malformed = Refused (refusal MalformedLine i)
+finished i End = Onward i

@@ -1,0 +1,66 @@
+use Prim.Native.Nat.{_-_, _≤_}
+use native.Mathlib.Omega.{arith}
+use mathlib.Core.Path.{_≡_, sym, _∙_}
+use borrow.Author.Needs.{needs}
+use borrow.Author.Tests.{not-true, not-false}
+use lib.ListN.{length}
+use Rattle.text.specs.Text.{isNameByte}
+use Rattle.text.proofs.Fields.{run-stop, run-past, End, end-step, end-here}
+use Rattle.text.proofs.name_end.Statement.{statement}
+use Rattle.text.proofs.name_end.Tie as tie
+
+abbrev Inv-loop : tie.InvT-loop
+Inv-loop listing at i₀ i = (at ≤ i) × (End isNameByte listing (i - at) i ≡ End isNameByte listing 0 at)
+
+abbrev μ-loop : tie.MeasureT-loop
+μ-loop listing at i₀ i = length listing - i
+
+loop-holds : tie.Need-loop-holds Inv-loop μ-loop
+loop-holds c = let z : c .before .args .at - c .before .args .at ≡ 0 = omega arith in (omega arith, rw z)
+
+shared-slice-read-is-name-byte : tie.Need-shared-slice-read-is-name-byte Inv-loop μ-loop
+shared-slice-read-is-name-byte c = omega arith
+
+is-name-byte-requires : tie.Need-is-name-byte-requires Inv-loop μ-loop
+is-name-byte-requires c κs = search needs
+
+returns : tie.Need-returns Inv-loop μ-loop
+returns c =
+    let s = c .before .before .before .before .before .before .args .listing .now in
+    let l = c .before .before .before .before .loop in
+    let out = sym (c .before .is-name-byte .ensures) ∙ not-true _ (c .if1 .taken) in
+    end-here isNameByte s _ (l .i) (run-stop isNameByte _ s (l .i) (c .before .before .before .loop-test .taken) out) ∙ l .inv .1
+
+add-i : tie.Need-add-i Inv-loop μ-loop
+add-i c = omega arith
+
+loop-less : tie.Need-loop-less Inv-loop μ-loop
+loop-less c = omega arith
+
+loop-again : tie.Need-loop-again Inv-loop μ-loop
+loop-again c =
+    let a = c .before .before .before .before .before .before .args in
+    let l = c .before .before .before .before .loop in
+    let in-span = sym (c .before .is-name-byte .ensures) ∙ not-false _ (c .if1 .left) in
+    (omega arith, end-step isNameByte (a .listing .now) (a .at) (l .i) (l .inv .0) (c .before .before .before .loop-test .taken) in-span ∙ l .inv .1)
+
+returns-2 : tie.Need-returns-2 Inv-loop μ-loop
+returns-2 c =
+    let s = c .before .before .before .args .listing .now in
+    let l = c .before .loop in
+    end-here isNameByte s _ (l .i) (run-past isNameByte _ s (l .i) (c .loop-test .left)) ∙ l .inv .1
+
+pub name-end-spec : {M : Type 1} → statement M
+name-end-spec =
+    tie.close
+    (tie.spec
+    Inv-loop
+    μ-loop
+    loop-holds
+    shared-slice-read-is-name-byte
+    is-name-byte-requires
+    returns
+    add-i
+    loop-less
+    loop-again
+    returns-2)
