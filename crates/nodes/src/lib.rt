@@ -4,10 +4,12 @@ ghost use Rattle.listing.specs.declared.Line.{Line};
 ghost use Rattle.ast.specs.Tree.{fault};
 ghost use Rattle.rows.specs.Rows.{lineIn};
 ghost use Rattle.nodes.specs.declared.Answer.{Answer};
+ghost use Rattle.nodes.specs.declared.Head.{Head};
 ghost use Rattle.nodes.specs.Stands.{Holds, walked};
 use ast::CompileError;
 use ast::ErrorKind;
 use ast::Location;
+use ast::Target;
 use listing::ExpressionLine;
 use listing::FactorLine;
 use listing::Line;
@@ -20,11 +22,24 @@ pub enum Answer {
     Fault(CompileError),
 }
 
+// What the T line holds.
+pub struct Head {
+    pub target: Target,
+    pub declarations: u32,
+}
+
 // A fault: its kind and its place.
 pub fn refuse(kind: ErrorKind, loc: Location) -> Answer
     ensures { λ r. ⌜ r ≡ Answer.Fault (fault kind loc) ⌝ }
 {
     Answer::Fault(CompileError { loc, kind })
+}
+
+fn no_head() -> Head {
+    Head {
+        target: Target::Legacy,
+        declarations: 0,
+    }
 }
 
 fn nowhere() -> Location {
@@ -101,5 +116,42 @@ pub fn block_at(table: &[u32], i: usize) -> u32
         Line::Statement(_) => 0,
         Line::Expression(_) => 0,
         Line::Factor(_) => 0,
+    }
+}
+
+// How many items a declaration has.
+pub fn declaration_at(table: &[u32], i: usize) -> u32
+    requires { ⌜ Holds Line.Declaration (now table) i ⌝ }
+    ensures { λ r. ⌜ lineIn (now (table .entry)) i ≡ Line.Declaration r ⌝ }
+{
+    let l = row(table, i);
+    match l {
+        Line::Declaration(n) => n,
+        Line::Contract(_, _) => 0,
+        Line::StackParam(_, _, _) => 0,
+        Line::Block(_) => 0,
+        Line::Statement(_) => 0,
+        Line::Expression(_) => 0,
+        Line::Factor(_) => 0,
+    }
+}
+
+// The T line: the target, and how many declarations there are.
+pub fn contract_at(table: &[u32], i: usize) -> Head
+    requires { ⌜ Holds (λ (h : Head). Line.Contract (h .target) (h .declarations)) (now table) i ⌝ }
+    ensures { λ r. ⌜ lineIn (now (table .entry)) i ≡ Line.Contract (r .target) (r .declarations) ⌝ }
+{
+    let l = row(table, i);
+    match l {
+        Line::Contract(target, declarations) => Head {
+            target,
+            declarations,
+        },
+        Line::Declaration(_) => no_head(),
+        Line::StackParam(_, _, _) => no_head(),
+        Line::Block(_) => no_head(),
+        Line::Statement(_) => no_head(),
+        Line::Expression(_) => no_head(),
+        Line::Factor(_) => no_head(),
     }
 }

@@ -18,14 +18,14 @@ use Rattle.reader.specs.declared.ListingRead.{ListingRead}
 use Rattle.reader.specs.declared.ListingRead.the-variants.{Rows, Refused}
 use Rattle.reader.specs.Ast.{CompileError}
 use Rattle.reader.specs.Source.{Source, source, Read, read, refused, refuse}
-use Rattle.reader.specs.Ceilings.{maxBytes, maxLines}
+use Rattle.reader.specs.Ceilings.{maxBytes, withinCeilings}
 use Rattle.reader.specs.Reading.{contract, readListing}
 use Rattle.reader.specs.Spells.{SpellsContract, linesOf}
 use Rattle.reader.specs.Table.{stepped}
 use Rattle.reader.specs.Held.{Stored, rowsOf, rowsKept, rowsLeft, listingRead, workRead, Spelled}
 use Rattle.reader.proofs.Spelling.{Whole, lists, listing-spells}
 use Rattle.reader.proofs.Agree.{contract-agrees}
-use Rattle.reader.proofs.Stored.{reached-few, stored-line, stored-length, stored-count}
+use Rattle.reader.proofs.Stored.{reached-few, reached-fits, stored-line, stored-length, stored-count}
 
 -- a contract that was read, and a refusal
 pub kept-read : (y : Read Contract) (n : ℕ) (t : List ℕ) → stepped y ≡ Onward n → (Rows n ≡ rowsOf y) × (t ≡ rowsKept y t)
@@ -73,6 +73,7 @@ module _ (s w u : List ℕ) (n : Lines) (h : Stored s w u n) (few : n .count * 9
         few = reached-few s (f .1);
         room = omega (arith, stored-length s w u n h room);
         lines = agree;
+        fits = λ k i. ap withinCeilings (agree k i) ∙ reached-fits s (f .1) k i;
         spells = contract-agrees (linesOf s) (rowLine u) s (f .0 .spells) agree;
         shallow = f .0 .shallow;
         nested = f .0 .nested;

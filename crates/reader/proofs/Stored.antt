@@ -23,7 +23,7 @@ use Rattle.reader.specs.declared.Lines.{Lines}
 use Rattle.reader.specs.declared.Asked.{Asked}
 use Rattle.reader.specs.declared.Asked.the-variants.{Found, Malformed, End}
 use Rattle.reader.specs.Ast.{Line, Contract, Next, found, malformed, ended, nextLine}
-use Rattle.reader.specs.Ceilings.{maxBytes, maxLines}
+use Rattle.reader.specs.Ceilings.{maxBytes, maxLines, withinCeilings}
 use Rattle.reader.specs.Source.{Source, read}
 use Rattle.reader.specs.Reading.{readListing}
 use Rattle.reader.specs.Spells.{Reached, start, step, nth, lineIn, linesOf}
@@ -84,16 +84,28 @@ pub reached-few : (s : List ℕ) {r : Source} → Reached s r → r .index ≤ m
 reached-few s start = omega arith
 reached-few s (step k e f w) = omega arith
 
-reached-found : (s : List ℕ) {r : Source} → Reached s r → (k : ℕ) → k < r .index → (l : Line) × (m : ℕ) × (u : List ℕ) × (nth k 0 s ≡ found l m u)
-reached-found s start k i = absurd (omega arith)
-reached-found s (step {r} {l} {n} {t} reached e f w) k i = go (ltb k (r .index)) refl (λ h. reached-found s reached k h)
+-- a line of the listing that passes no ceiling of its own
+record There (s : List ℕ) (k : ℕ) : Type 0 where
+  line : Line
+  at : ℕ
+  rest : List ℕ
+  stands : nth k 0 s ≡ found line at rest
+  fits : withinCeilings line ≡ true
+
+reached-there : (s : List ℕ) {r : Source} → Reached s r → (k : ℕ) → k < r .index → There s k
+reached-there s start k i = absurd (omega arith)
+reached-there s (step {r} {l} {n} {t} reached e f w) k i = go (ltb k (r .index)) refl (λ h. reached-there s reached k h)
   where
-    go : (b : Bool) → ltb k (r .index) ≡ b → (k < r .index → (l : Line) × (m : ℕ) × (u : List ℕ) × (nth k 0 s ≡ found l m u)) → (l : Line) × (m : ℕ) × (u : List ℕ) × (nth k 0 s ≡ found l m u)
+    go : (b : Bool) → ltb k (r .index) ≡ b → (k < r .index → There s k) → There s k
     go true p ih = ih (ltb-true k (r .index) p)
     go false p ih =
         let x = ltb-false k (r .index) p in
         let same : k ≡ r .index = omega arith in
-        (l, n, t, ap (λ k. nth k 0 s) same ∙ reached-nth s reached ∙ e)
+        record { line = l; at = n; rest = t; stands = ap (λ k. nth k 0 s) same ∙ reached-nth s reached ∙ e; fits = w }
+
+pub reached-fits : (s : List ℕ) {r : Source} → Reached s r → (k : ℕ) → k < r .index → withinCeilings (linesOf s k) ≡ true
+unfolding lineIn
+reached-fits s reached k i = let l = reached-there s reached k i in ap (λ y. withinCeilings (lineIn y)) (l .stands) ∙ l .fits
 
 -- past a line of no form, and past the end, nothing else stands
 abbrev Stops : Next → Type 0
@@ -154,8 +166,8 @@ module _ (s w t : List ℕ) (n : Lines) (h : Stored s w t n) (room : n .count * 
 
       early : (k : ℕ) → k < q .index → k ≡ n .count → ⊥
       early k i p =
-          let f = reached-found s (whole .1) k i in
-          after-stops (n .ended) (nth k 0 s) (ap (λ k. standing (nth k 0 s)) p ∙ h .after (omega (arith, reached-few s (whole .1)))) (f .0) (f .1) (f .2) (f .3)
+          let f = reached-there s (whole .1) k i in
+          after-stops (n .ended) (nth k 0 s) (ap (λ k. standing (nth k 0 s)) p ∙ h .after (omega (arith, reached-few s (whole .1)))) (f .line) (f .at) (f .rest) (f .stands)
 
       ends : (a : Bool) → ltb (q .index) (n .count) ≡ a → (b : Bool) → ltb (n .count) (q .index) ≡ b → q .index ≡ n .count
       ends true i b j = let z : _≡_ {A = Asked} End (Found (linesOf s (q .index))) = sym (ap standing last) ∙ h .found (q .index) (ltb-true (q .index) (n .count) i) in let o : _≡_ {A = ℕ} 0 1 = cc in absurd (omega arith)

@@ -14,7 +14,7 @@ use Rattle.reader.specs.declared.Asked.the-variants.{Found, Malformed, E
 use Rattle.reader.specs.declared.ListingRead.{ListingRead}
 use Rattle.reader.specs.declared.ListingRead.the-variants.{Rows, Refused}
 use Rattle.reader.specs.Source.{Source, Read, read, refused}
-use Rattle.reader.specs.Ceilings.{maxLines, maxDepth, maxBlockDepth}
+use Rattle.reader.specs.Ceilings.{maxLines, maxDepth, maxBlockDepth, withinCeilings}
 use Rattle.reader.specs.Reading.{readListing}
 use Rattle.reader.specs.Spells.{SpellsContract, nth, linesOf}
 use Rattle.reader.specs.Readable.{deepest, blocksBelow}
@@ -59,6 +59,7 @@ pub record Spelled (s t : List ℕ) (n : ℕ) : Type 0 where
   pub few : n ≤ maxLines
   pub room : n * 9 ≤ length t
   pub lines : (k : ℕ) → k < n → lineIn t k ≡ linesOf s k
+  pub fits : (k : ℕ) → k < n → withinCeilings (lineIn t k) ≡ true
   pub spells : SpellsContract (lineIn t) s contract n
   pub shallow : deepest (contract .block) ≤ maxDepth
   pub nested : suc (blocksBelow (contract .block)) ≤ maxBlockDepth
