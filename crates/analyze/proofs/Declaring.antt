@@ -55,7 +55,7 @@ pub record Declaring (s t : List ℕ) (c : Contract) (n count : ℕ) (firsts cou
   pub row : ℕ
   pub ahead : SpellsDeclarations (lineIn t) StackParam (item s) (count - p) at (drop p (c .declarations)) row
   pub block : SpellsBlock (lineIn t) s row (c .block) n
-  pub items : (q : ℕ) → q < p → SpellsItems (lineIn t) StackParam (item s) (getD counts q 0) (getD firsts q 0) (getD (c .declarations) q []) (getD firsts q 0 + getD counts q 0) × (getD counts q 0 ≤ maxItems)
+  pub items : (q : ℕ) → q < p → SpellsItems (lineIn t) StackParam (item s) (getD counts q 0) (getD firsts q 0) (getD (c .declarations) q []) (getD firsts q 0 + getD counts q 0) × (getD counts q 0 ≤ maxItems) × (getD firsts q 0 + getD counts q 0 ≤ n)
 
 module _ (s t : List ℕ) (n : ℕ) where
   -- the T line of a contract
@@ -133,12 +133,12 @@ module _ (s t : List ℕ) (n : ℕ) where
         one : suc at ≡ at + 1
         one = omega arith
 
-        kept : (q : ℕ) (b : Bool) → ltb q p ≡ b → q < p + 1 → SpellsItems (lineIn t) StackParam (item s) (getD (set counts p m) q 0) (getD (set firsts p (at + 1)) q 0) (getD (c .declarations) q []) (getD (set firsts p (at + 1)) q 0 + getD (set counts p m) q 0) × (getD (set counts p m) q 0 ≤ maxItems)
+        kept : (q : ℕ) (b : Bool) → ltb q p ≡ b → q < p + 1 → SpellsItems (lineIn t) StackParam (item s) (getD (set counts p m) q 0) (getD (set firsts p (at + 1)) q 0) (getD (c .declarations) q []) (getD (set firsts p (at + 1)) q 0 + getD (set counts p m) q 0) × (getD (set counts p m) q 0 ≤ maxItems) × (getD (set firsts p (at + 1)) q 0 + getD (set counts p m) q 0 ≤ n)
         kept q true e₁ j = let x = ltb-true q p e₁ in let o : q ≡ p → ⊥ = λ y. omega arith in rw (getD-set-other counts p q m 0 o, getD-set-other firsts p q (at + 1) 0 o) (h .items q x)
         kept q false e₁ j =
             let x = ltb-false q p e₁ in
             let y : q ≡ p = omega arith in
-            subst (λ q. SpellsItems (lineIn t) StackParam (item s) (getD (set counts p m) q 0) (getD (set firsts p (at + 1)) q 0) (getD (c .declarations) q []) (getD (set firsts p (at + 1)) q 0 + getD (set counts p m) q 0) × (getD (set counts p m) q 0 ≤ maxItems)) (sym y) (rw (getD-set-same counts p m 0 g, getD-set-same firsts p (at + 1) 0 f) (here, omega (arith, next-few st, next-count e)))
+            subst (λ q. SpellsItems (lineIn t) StackParam (item s) (getD (set counts p m) q 0) (getD (set firsts p (at + 1)) q 0) (getD (c .declarations) q []) (getD (set firsts p (at + 1)) q 0 + getD (set counts p m) q 0) × (getD (set counts p m) q 0 ≤ maxItems) × (getD (set firsts p (at + 1)) q 0 + getD (set counts p m) q 0 ≤ n)) (sym y) (rw (getD-set-same counts p m 0 g, getD-set-same firsts p (at + 1) 0 f) (here, omega (arith, next-few st, next-count e), omega (arith, next-within, next-count e)))
           where
             here : SpellsItems (lineIn t) StackParam (item s) m (at + 1) (getD (c .declarations) p []) (at + 1 + m)
             here =
@@ -156,7 +156,7 @@ module _ (s t : List ℕ) (n : ℕ) where
         target = e;
         count = sym (h .all);
         few = few;
-        items = λ q k. let x = h .items q (omega arith) in record { spells = x .0; few = x .1 };
+        items = λ q k. let x = h .items q (omega arith) in record { spells = x .0; few = x .1; within = x .2 };
         block = subst (λ r. SpellsBlock (lineIn t) s r (c .block) n) (sym (end none (h .ahead))) (h .block);
       }
     where

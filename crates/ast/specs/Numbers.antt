@@ -1,6 +1,7 @@
 -- Enum numbers follow the order in src/ast.rs, from 0.
-use Prim.Native.Nat.{ℕ}
+use Prim.Native.Nat.{ℕ, _-_}
 use mathlib.Core.List.{List, [], _∷_}
+use lib.ListN.{getD}
 use Rattle.ast.specs.declared.Target.{Target}
 use Rattle.ast.specs.declared.Target.the-variants.{Legacy, Segwit, Taproot}
 use Rattle.ast.specs.declared.Type.{«Type» as ItemType}
@@ -17,6 +18,8 @@ use Rattle.ast.specs.declared.UnaryCryptoOp.{UnaryCryptoOp}
 use Rattle.ast.specs.declared.UnaryCryptoOp.the-variants.{Sha256, Ripemd160}
 use Rattle.ast.specs.declared.LocktimeOp.{LocktimeOp}
 use Rattle.ast.specs.declared.LocktimeOp.the-variants.{Cltv, Csv}
+use Rattle.ast.specs.declared.ErrorKind.{ErrorKind}
+use Rattle.ast.specs.declared.ErrorKind.the-variants.{ListingTooLong, MalformedLine, UnexpectedLine, CeilingPassed, WorkTooShort, OutputTooShort, DuplicateVariable, UndefinedVariable, VariableConsumed, UnusedVariable, InvalidConsumptionOrder, TypeMismatch, InvalidOperation, NoReturn, UnreachableCode, DeclarationPathMismatch, IntegerOverflow, MalformedPubkey}
 
 abbrev pub targets : List Target
 targets = Legacy ∷ Segwit ∷ Taproot ∷ []
@@ -88,3 +91,12 @@ cryptoNumber Ripemd160 = 1
 abbrev pub locktimeNumber : LocktimeOp → ℕ
 locktimeNumber Cltv = 0
 locktimeNumber Csv = 1
+
+-- the kinds by their numbers in document 01, from 1; 7 to 10 are none
+abbrev pub kinds : List ErrorKind
+kinds =
+    ListingTooLong ∷ MalformedLine ∷ UnexpectedLine ∷ CeilingPassed ∷ WorkTooShort ∷ OutputTooShort ∷ OutputTooShort ∷ OutputTooShort ∷ OutputTooShort ∷ OutputTooShort ∷ DuplicateVariable ∷ UndefinedVariable ∷ VariableConsumed ∷ UnusedVariable ∷ InvalidConsumptionOrder ∷ TypeMismatch ∷ InvalidOperation ∷ NoReturn ∷ UnreachableCode ∷ DeclarationPathMismatch ∷ IntegerOverflow ∷ MalformedPubkey ∷ []
+
+-- the kind of a number
+unfoldable pub kindFrom : ℕ → ErrorKind
+kindFrom n = getD kinds (n - 1) MalformedPubkey

@@ -9,10 +9,6 @@ use Rattle.reader.specs.Spells.{SpellsContract}
 use Rattle.analyze.proofs.Declaring.{Declaring, head-holds, head-few, declaring-none, next-row, next-holds, next-bounds, declaring-more, declaring-all}
 use Rattle.analyze.proofs.declarations.Statement.{statement}
 use Rattle.analyze.proofs.declarations.Tie as tie
-use Rattle.analyze.proofs.declarations.Reads as reads
-use Rattle.analyze.proofs.declarations.Lts as lts
-use Rattle.nodes.proofs.contract_at.Reads as contract-at-reads
-use Rattle.nodes.proofs.declaration_at.Reads as declaration-at-reads
 
 abbrev Inv-loop : tie.InvT-loop
 Inv-loop listing table n target count firsts₀ counts₀ at₀ p₀ firsts counts at p =
@@ -21,15 +17,12 @@ Inv-loop listing table n target count firsts₀ counts₀ at₀ p₀ firsts coun
 abbrev μ-loop : tie.MeasureT-loop
 μ-loop listing table n target count firsts₀ counts₀ at₀ p₀ firsts counts at p = count - p
 
--- src/lib.rt:25:9
 contract-at-requires : tie.Need-contract-at-requires Inv-loop μ-loop
 contract-at-requires c κs = head-holds _ _ _ (c .before .before .pre)
 
--- src/lib.rt:32:5
 loop-holds : tie.Need-loop-holds Inv-loop μ-loop
 loop-holds c = (omega arith, refl, refl, λ x sp. declaring-none _ _ _ _ _ (c .contract-at .ensures) sp)
 
--- src/lib.rt:33:43
 cast-declaration-at : tie.Need-cast-declaration-at Inv-loop μ-loop
 cast-declaration-at c =
     let st = c .before .before .before .before .before .pre in
@@ -37,7 +30,6 @@ cast-declaration-at c =
     let i = c .loop-test .taken in
     omega (arith, next-row _ _ _ h i, st .rows .few)
 
--- src/lib.rt:33:13
 declaration-at-requires : tie.Need-declaration-at-requires Inv-loop μ-loop
 declaration-at-requires c κs =
     let st = c .before .before .before .before .before .pre in
@@ -45,7 +37,6 @@ declaration-at-requires c κs =
     let i = c .loop-test .taken in
     next-holds _ _ _ h i (st .rows .room)
 
--- src/lib.rt:34:30
 add-firsts : tie.Need-add-firsts Inv-loop μ-loop
 add-firsts c =
     let st = c .before .before .before .before .before .before .pre in
@@ -53,43 +44,36 @@ add-firsts c =
     let i = c .before .loop-test .taken in
     omega (arith, next-bounds _ _ _ h i st (c .declaration-at .ensures), st .rows .few)
 
--- src/lib.rt:34:16
 cast-firsts : tie.Need-cast-firsts Inv-loop μ-loop
 cast-firsts c =
     let st = c .before .before .before .before .before .before .pre in
     omega (arith, head-few _ _ _ st (c .before .before .before .contract-at .ensures), c .before .loop-test .taken)
 
--- src/lib.rt:34:9
 mul-firsts : tie.Need-mul-firsts Inv-loop μ-loop
 mul-firsts c =
     let st = c .before .before .before .before .before .before .pre in
     omega (arith, head-few _ _ _ st (c .before .before .before .contract-at .ensures), c .before .loop-test .taken)
 
--- src/lib.rt:34:9
 array-write-firsts : tie.Need-array-write-firsts Inv-loop μ-loop
 array-write-firsts c =
     let st = c .before .before .before .before .before .before .pre in
     omega (arith, head-few _ _ _ st (c .before .before .before .contract-at .ensures), c .before .loop-test .taken)
 
--- src/lib.rt:35:16
 cast-counts : tie.Need-cast-counts Inv-loop μ-loop
 cast-counts c =
     let st = c .before .before .before .before .before .before .pre in
     omega (arith, head-few _ _ _ st (c .before .before .before .contract-at .ensures), c .before .loop-test .taken)
 
--- src/lib.rt:35:9
 mul-counts : tie.Need-mul-counts Inv-loop μ-loop
 mul-counts c =
     let st = c .before .before .before .before .before .before .pre in
     omega (arith, head-few _ _ _ st (c .before .before .before .contract-at .ensures), c .before .loop-test .taken)
 
--- src/lib.rt:35:9
 array-write-counts : tie.Need-array-write-counts Inv-loop μ-loop
 array-write-counts c =
     let st = c .before .before .before .before .before .before .pre in
     omega (arith, head-few _ _ _ st (c .before .before .before .contract-at .ensures), c .before .loop-test .taken)
 
--- src/lib.rt:36:14
 add-at : tie.Need-add-at Inv-loop μ-loop
 add-at c =
     let st = c .before .before .before .before .before .before .pre in
@@ -97,7 +81,6 @@ add-at c =
     let i = c .before .loop-test .taken in
     omega (arith, next-bounds _ _ _ h i st (c .declaration-at .ensures), st .rows .few)
 
--- src/lib.rt:36:14
 add-at-2 : tie.Need-add-at-2 Inv-loop μ-loop
 add-at-2 c =
     let st = c .before .before .before .before .before .before .pre in
@@ -105,17 +88,14 @@ add-at-2 c =
     let i = c .before .loop-test .taken in
     omega (arith, next-bounds _ _ _ h i st (c .declaration-at .ensures), st .rows .few)
 
--- src/lib.rt:37:9
 add-p : tie.Need-add-p Inv-loop μ-loop
 add-p c =
     let st = c .before .before .before .before .before .before .pre in
     omega (arith, head-few _ _ _ st (c .before .before .before .contract-at .ensures), c .before .loop-test .taken)
 
--- src/lib.rt:32:5
 loop-less : tie.Need-loop-less Inv-loop μ-loop
 loop-less c = omega arith
 
--- src/lib.rt:32:5
 loop-again : tie.Need-loop-again Inv-loop μ-loop
 loop-again c =
     let st = c .before .before .before .before .before .before .pre in
@@ -128,7 +108,6 @@ loop-again c =
       λ x sp. let h = l .inv .3 x sp in (h .0, declaring-more _ _ _ (h .1) i st (c .declaration-at .ensures) (omega (arith, l .inv .1)) (omega (arith, l .inv .2))),
     )
 
--- src/lib.rt:21:1
 returns : tie.Need-returns Inv-loop μ-loop
 returns c =
     let st = c .before .before .before .before .before .pre in

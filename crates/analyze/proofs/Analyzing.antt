@@ -1,0 +1,120 @@
+-- The whole analysis, from what its parts answer.
+use Prim.Native.Nat.{ℕ, zero, suc, _+_, _≤_, _<_}
+use native.Mathlib.Omega.{arith}
+use mathlib.Core.Bool.{Bool, true, false}
+use mathlib.Core.List.{List, [], _∷_}
+use mathlib.Core.Path.{_≡_, refl, sym, ap, _∙_, subst}
+use borrow.Author.Tests.{eq-eqb, ne-eqb}
+use lib.Dec.{eqb}
+use lib.ListN.{length, getD}
+use Rattle.ast.specs.declared.CompileError.{CompileError}
+use Rattle.ast.specs.declared.Checked.{Checked}
+use Rattle.ast.specs.declared.Checked.the-variants.{Ok, Err}
+use Rattle.ast.specs.Tree.{Declaration, Contract}
+use Rattle.rules.specs.Result.{Result, ok, err, _>>=_, _>>_, both}
+use Rattle.rules.specs.Table.{Table, buildAll}
+use Rattle.rules.specs.Paths.{count}
+use Rattle.rules.specs.Flow.{flow}
+use Rattle.rules.specs.Unused.{unusedAll}
+use Rattle.rules.specs.Walk.{Walked as Walk, walk}
+use Rattle.rules.specs.Analyze.{counted, analyze}
+use Rattle.usage.specs.declared.NamePlace.{NamePlace}
+use Rattle.analyze.specs.declared.Declared.{Declared}
+use Rattle.analyze.specs.Items.{ContractAt, DeclaredAs, Given}
+use Rattle.analyze.specs.State.{tablesOf, Ready, faultIn, branchIn, outcome, Moved, faulted, passed, turned, settled, started, analyzed}
+use Rattle.analyze.proofs.State.{faulted-says, passed-says, passed-zero, outcome-fault}
+use Rattle.analyze.proofs.Statements.{moved-on}
+
+-- what comes after flow and the count
+abbrev rest : Contract → Result (List Table)
+rest c = buildAll (c .declarations) >>= λ ts. walk (c .block) (c .target) ts 0 >>= λ w. unusedAll (w .tables) >> ok (w .tables)
+
+shape-stops : (c : Contract) {x : CompileError} → both (flow (c .block)) (counted (count (c .block)) (c .declarations)) ≡ Err x → analyze c ≡ err x
+unfolding analyze
+shape-stops c {x} h = go (flow (c .block)) refl
+  where
+    second : flow (c .block) ≡ Ok → (y : Checked) → counted (count (c .block)) (c .declarations) ≡ y → analyze c ≡ err x
+    second e Ok q = let f : _≡_ {A = Checked} Ok (Err x) = rw (e, q) at h in let o : _≡_ {A = ℕ} 0 1 = cc in absurd (omega arith)
+    second e (Err z) q = let f : _≡_ {A = Checked} (Err z) (Err x) = rw (e, q) at h in let g : z ≡ x = cc in rw (e, q, analyze, g)
+
+    go : (y : Checked) → flow (c .block) ≡ y → analyze c ≡ err x
+    go Ok e = second e (counted (count (c .block)) (c .declarations)) refl
+    go (Err z) e = let f : _≡_ {A = Checked} (Err z) (Err x) = rw e at h in let g : z ≡ x = cc in rw (e, analyze, g)
+
+shape-passes : (c : Contract) → both (flow (c .block)) (counted (count (c .block)) (c .declarations)) ≡ Ok → analyze c ≡ rest c
+unfolding analyze
+shape-passes c h = go (flow (c .block)) refl
+  where
+    second : flow (c .block) ≡ Ok → (y : Checked) → counted (count (c .block)) (c .declarations) ≡ y → analyze c ≡ rest c
+    second e Ok q = rw (e, q, analyze)
+    second e (Err z) q = let f : _≡_ {A = Checked} (Err z) Ok = rw (e, q) at h in let o : _≡_ {A = ℕ} 0 1 = cc in absurd (omega arith)
+
+    go : (y : Checked) → flow (c .block) ≡ y → analyze c ≡ rest c
+    go Ok e = second e (counted (count (c .block)) (c .declarations)) refl
+    go (Err z) e = let f : _≡_ {A = Checked} (Err z) Ok = rw e at h in let o : _≡_ {A = ℕ} 0 1 = cc in absurd (omega arith)
+
+started-err : (c : Contract) {x : CompileError} → started (c .declarations) ≡ err x → rest c ≡ err x
+unfolding started
+started-err c {x} h = go (buildAll (c .declarations)) refl
+  where
+    go : (y : Result (List Table)) → buildAll (c .declarations) ≡ y → rest c ≡ err x
+    go (ok ts) e = let f : _≡_ {A = Result Walk} (ok (record { tables = ts; branch = 0 })) (err x) = rw e at h in let o : _≡_ {A = ℕ} 0 1 = cc in absurd (omega arith)
+    go (err y) e = let f : _≡_ {A = Result Walk} (err y) (err x) = rw e at h in let g : y ≡ x = cc in rw (e, g)
+
+started-ok : (c : Contract) {w : Walk} → started (c .declarations) ≡ ok w → rest c ≡ (walk (c .block) (c .target) (w .tables) (w .branch) >>= λ w. unusedAll (w .tables) >> ok (w .tables))
+unfolding started
+started-ok c {w} h = go (buildAll (c .declarations)) refl
+  where
+    go : (y : Result (List Table)) → buildAll (c .declarations) ≡ y → rest c ≡ (walk (c .block) (c .target) (w .tables) (w .branch) >>= λ w. unusedAll (w .tables) >> ok (w .tables))
+    go (ok ts) e =
+        let f : _≡_ {A = Result Walk} (ok (record { tables = ts; branch = 0 })) (ok w) = rw e at h in
+        let g : record { tables = ts; branch = 0 } ≡ w = cc in
+        rw (e, ← g)
+    go (err y) e = let f : _≡_ {A = Result Walk} (err y) (ok w) = rw e at h in let o : _≡_ {A = ℕ} 0 1 = cc in absurd (omega arith)
+
+-- a refusal in numbers
+analyzed-fault : (ts : List Table) (out : List ℕ) → (getD out 0 0 ≡ 0 → ⊥) → analyzed ts out ≡ err (faultIn out)
+unfolding analyzed
+analyzed-fault ts out h = rw (ne-eqb (getD out 0 0) 0 h, analyzed)
+
+moved-fault : {s t : List ℕ} {d : Declared} {w : Result Walk} {j : ℕ} {rows : List (List NamePlace)} {taken out : List ℕ} → Moved s t d w j rows taken out → (getD out 0 0 ≡ 0 → ⊥) → w ≡ err (faultIn out)
+moved-fault {s} {t} {d} {rows = rows} {taken = taken} {out = out} m z = sym (m .result) ∙ outcome-fault (tablesOf s t d rows taken) out z
+
+outcome-analyzed : (ts us : List Table) (out : List ℕ) {x : CompileError} → outcome ts out ≡ err x → analyzed us out ≡ err x
+unfolding outcome analyzed
+outcome-analyzed ts us out {x} h = go (eqb (getD out 0 0) 0) refl
+  where
+    go : (b : Bool) → eqb (getD out 0 0) 0 ≡ b → analyzed us out ≡ err x
+    go true e = let f : _≡_ {A = Result Walk} (ok (record { tables = ts; branch = branchIn out })) (err x) = rw (e, outcome) at h in let o : _≡_ {A = ℕ} 0 1 = cc in absurd (omega arith)
+    go false e = let f : _≡_ {A = Result Walk} (err (faultIn out)) (err x) = rw (e, outcome) at h in let g : faultIn out ≡ x = cc in rw (e, analyzed, g)
+
+module _ {s t : List ℕ} {d : Declared} {c : Contract} {n : ℕ} (D : DeclaredAs s t d c n) where
+  pub stops-at-shape : (out out′ : List ℕ) {x : CompileError} {y : Checked} → length out ≡ 7 → y ≡ both (flow (c .block)) (counted (count (c .block)) (c .declarations)) → y ≡ Err x → out′ ≡ faulted out x → (ts : List Table) → analyzed ts out′ ≡ analyze c
+  stops-at-shape out out′ {x} full e f q ts = outcome-analyzed ts ts out′ (ap (outcome ts) q ∙ faulted-says out x ts full .0) ∙ sym (shape-stops c (sym e ∙ f))
+
+  module _ {y : Checked} (shape : y ≡ both (flow (c .block)) (counted (count (c .block)) (c .declarations))) (passes : y ≡ Ok) where
+    whole : analyze c ≡ rest c
+    whole = shape-passes c (sym shape ∙ passes)
+
+    module _ {rows₁ : List (List NamePlace)} {taken₁ out₁ : List ℕ} (m₁ : Moved s t d (started (c .declarations)) (d .block) rows₁ taken₁ out₁) where
+      pub stops-at-build : (getD out₁ 0 0 ≡ 0 → ⊥) → analyzed (tablesOf s t d rows₁ taken₁) out₁ ≡ analyze c
+      stops-at-build z = analyzed-fault (tablesOf s t d rows₁ taken₁) out₁ z ∙ sym (whole ∙ started-err c (moved-fault m₁ z))
+
+      module _ (z₁ : getD out₁ 0 0 ≡ 0) {j : ℕ} {rows₂ : List (List NamePlace)} {taken₂ out₂ : List ℕ} (m₂ : Moved s t d (walk (c .block) (d .target) (tablesOf s t d rows₁ taken₁) (branchIn out₁)) j rows₂ taken₂ out₂) where
+        after : analyze c ≡ (walk (c .block) (d .target) (tablesOf s t d rows₁ taken₁) (branchIn out₁) >>= λ w. unusedAll (w .tables) >> ok (w .tables))
+        after = whole ∙ started-ok c (moved-on m₁ z₁) ∙ ap (λ g. walk (c .block) g (tablesOf s t d rows₁ taken₁) (branchIn out₁) >>= λ w. unusedAll (w .tables) >> ok (w .tables)) (sym (D .target))
+
+        pub stops-at-walk : (getD out₂ 0 0 ≡ 0 → ⊥) → analyzed (tablesOf s t d rows₂ taken₂) out₂ ≡ analyze c
+        stops-at-walk z = analyzed-fault (tablesOf s t d rows₂ taken₂) out₂ z ∙ sym (after ∙ rw (moved-fault m₂ z))
+
+        pub ends : getD out₂ 0 0 ≡ 0 → (y : Checked) (out₃ : List ℕ) (k : ℕ) → y ≡ unusedAll (tablesOf s t d rows₂ taken₂) → out₃ ≡ settled out₂ y k → analyzed (tablesOf s t d rows₂ taken₂) out₃ ≡ analyze c
+        unfolding settled analyzed
+        ends z Ok out₃ k e q =
+            let p = passed-says out₂ k (tablesOf s t d rows₂ taken₂) (m₂ .full) in
+            ap (analyzed (tablesOf s t d rows₂ taken₂)) q ∙ rw (eq-eqb (getD (passed out₂ k) 0 0) 0 (passed-zero out₂ k (m₂ .full)), analyzed) (sym (after ∙ rw (moved-on m₂ z, ← e)))
+        ends z (Err x) out₃ k e q =
+            let f = faulted-says out₂ x (tablesOf s t d rows₂ taken₂) (m₂ .full) in
+            outcome-analyzed (tablesOf s t d rows₂ taken₂) (tablesOf s t d rows₂ taken₂) out₃ (ap (outcome (tablesOf s t d rows₂ taken₂)) q ∙ f .0) ∙ sym (after ∙ rw (moved-on m₂ z, ← e))
+
+pub given-at : {s t : List ℕ} {d : Declared} {n : ℕ} (C : ContractAt s t n) → DeclaredAs s t d (C .contract) n → Given s t d
+given-at {n = n} C D = record { contract = C .contract; count = n; rows = C .rows; declared = D }

@@ -1,0 +1,179 @@
+-- The tables of all paths, built one after another.
+use Prim.Native.Nat.{ℕ, zero, suc, _+_, _/_, _%_, _-_, _≤_, _<_}
+use native.Mathlib.Numerals.{add-one}
+use native.Mathlib.Omega.{arith}
+use mathlib.Core.Bool.{Bool, true, false}
+use mathlib.Core.List.{List, [], _∷_, _++_, append-assoc, append-nil, map}
+use mathlib.Core.Option.{Option, some, none}
+use mathlib.Core.Path.{_≡_, refl, sym, ap, _∙_, subst}
+use borrow.Author.Tests.{eqb-true, eqb-false}
+use lib.Dec.{eqb}
+use lib.ListN.{length, getD, set, drop, drop-of-length-le}
+use lib.Seq.{drop-cons}
+use Rattle.ast.specs.declared.CompileError.{CompileError}
+use Rattle.ast.specs.Tree.{Name, StackParam, Declaration, fromTop, Contract}
+use Rattle.rows.specs.Rows.{lineIn}
+use Rattle.reader.specs.Reading.{item}
+use Rattle.reader.specs.Spells.{SpellsItems}
+use Rattle.nodes.specs.declared.Answer.the-variants.{Pass, Fault}
+use Rattle.rules.specs.Result.{Result, ok, err, _>>=_}
+use Rattle.rules.specs.Table.{Entry, Table, params, among, enter, build, buildAll}
+use Rattle.rules.specs.Walk.{Walked as Walk}
+use Rattle.names.specs.Items.{ItemsAt, itemsDown}
+use Rattle.usage.specs.declared.NamePlace.{NamePlace}
+use Rattle.usage.specs.declared.Path.{Path}
+use Rattle.usage.specs.declared.Used.{Used}
+use Rattle.names.proofs.Laws.{items-are}
+use Rattle.usage.specs.Tables.{Built}
+use Rattle.usage.specs.Path.{tableFrom, tableOf, WellFormed, resultOf}
+use Rattle.analyze.specs.declared.Declared.{Declared}
+use Rattle.analyze.specs.Items.{Items, DeclaredAs, Given}
+use Rattle.analyze.specs.State.{pathAt, tablesFrom, tablesOf, PathReady, Ready, branchIn, Moved, faulted, passed, started}
+use Rattle.analyze.proofs.State.{faulted-says, passed-says, other-path, same-path}
+use Rattle.analyze.proofs.Walking.{result-fault, result-pass}
+
+-- what is built has the declaration's items
+enter-params : (met : List Name) (ps : List StackParam) {t : Table} → enter met ps ≡ ok t → params t ≡ ps
+unfolding enter
+enter-params met [] {t} h = let e : _≡_ {A = Table} [] t = cc in ap params (sym e)
+enter-params met (p ∷ ps) {t} h = first (among (p .identifier) met) refl (λ u q. enter-params (p .identifier ∷ met) ps {t = u} q)
+  where
+    rest : (y : Result Table) → among (p .identifier) met ≡ false → enter (p .identifier ∷ met) ps ≡ y → ((u : Table) → enter (p .identifier ∷ met) ps ≡ ok u → params u ≡ ps) → params t ≡ p ∷ ps
+    rest (ok u) e q ih =
+        let f : _≡_ {A = Result Table} (ok (record { param = p; taken = none } ∷ u)) (ok t) = rw (e, enter, q) at h in
+        let g : _≡_ {A = Table} (record { param = p; taken = none } ∷ u) t = cc in
+        ap params (sym g) ∙ ap (λ l. p ∷ l) (ih u q)
+    rest (err x) e q ih = let f : _≡_ {A = Result Table} (err x) (ok t) = rw (e, enter, q) at h in let o : _≡_ {A = ℕ} 0 1 = cc in absurd (omega arith)
+
+    first : (b : Bool) → among (p .identifier) met ≡ b → ((u : Table) → enter (p .identifier ∷ met) ps ≡ ok u → params u ≡ ps) → params t ≡ p ∷ ps
+    first true e ih = let f : _≡_ {A = Result Table} (err _) (ok t) = rw (e, enter) at h in let o : _≡_ {A = ℕ} 0 1 = cc in absurd (omega arith)
+    first false e ih = rest (enter (p .identifier ∷ met) ps) e refl ih
+
+build-params : (d : Declaration) {t : Table} → build d ≡ ok t → params t ≡ fromTop d
+unfolding build
+build-params d h = enter-params [] (fromTop d) h
+
+-- a path has as many entries as items
+entries : (s t : List ℕ) (qs : List NamePlace) (x n : ℕ) → n ≤ length qs → length (tableFrom s t qs x n) ≡ n
+unfolding tableFrom
+entries s t [] x n h = omega arith
+entries s t (q ∷ qs) x zero h = refl
+entries s t (q ∷ qs) x (suc n) h = ap suc (entries s t qs (x / 2) n (omega arith))
+
+length-map : {A B : Type 0} (f : A → B) (l : List A) → length (map f l) ≡ length l
+length-map f [] = refl
+length-map f (x ∷ l) = ap suc (length-map f l)
+
+length-down : (s t : List ℕ) (i n : ℕ) → length (itemsDown s t i n) ≡ n
+unfolding itemsDown
+length-down s t i zero = refl
+length-down s t i (suc n) = ap suc (length-down s t i n)
+
+pub path-count : (s t : List ℕ) (p : Path) (first n : ℕ) → WellFormed s t p → params (tableOf s t p) ≡ itemsDown s t first n → p .count ≡ n
+unfolding tableOf
+path-count s t p first n w e = sym (entries s t (p .places) (p .taken) (p .count) (omega (arith, w .full, w .few))) ∙ sym (length-map (λ x. x .param) (tableOf s t p)) ∙ ap length e ∙ length-down s t first n
+
+-- the tables of the first paths
+module _ (s t : List ℕ) (d : Declared) where
+  snoc : (rows : List (List NamePlace)) (taken : List ℕ) (q k : ℕ) → tablesFrom s t d rows taken q (suc k) ≡ tablesFrom s t d rows taken q k ++ tableOf s t (pathAt d rows taken (q + k)) ∷ []
+  unfolding tablesFrom
+  snoc rows taken q zero = let z : q + 0 ≡ q = omega arith in rw z
+  snoc rows taken q (suc k) = let z : q + suc k ≡ suc q + k = omega arith in rw z (ap (λ l. tableOf s t (pathAt d rows taken q) ∷ l) (snoc rows taken (suc q) k))
+
+  kept : (rows : List (List NamePlace)) (taken : List ℕ) (p : ℕ) (x : List NamePlace) (y q k : ℕ) → q + k ≤ p → tablesFrom s t d (set rows p x) (set taken p y) q k ≡ tablesFrom s t d rows taken q k
+  unfolding tablesFrom
+  kept rows taken p x y q zero h = refl
+  kept rows taken p x y q (suc k) h = let o : q ≡ p → ⊥ = λ e. omega arith in rw (other-path s t d rows taken p x y q o, kept rows taken p x y (suc q) k (omega arith))
+
+  -- the first p declarations are built
+  pub record Building (c : Contract) (rows : List (List NamePlace)) (taken : List ℕ) (p : ℕ) : Type 0 where
+    pub same : buildAll (c .declarations) ≡ (buildAll (drop p (c .declarations)) >>= λ ts. ok (tablesFrom s t d rows taken 0 p ++ ts))
+
+  pub building-none : (c : Contract) (rows : List (List NamePlace)) (taken : List ℕ) → Building c rows taken 0
+  unfolding tablesFrom
+  building-none c rows taken = record { same = go (buildAll (c .declarations)) }
+    where
+      go : (y : Result (List Table)) → y ≡ (y >>= λ ts. ok ([] ++ ts))
+      go (ok ts) = refl
+      go (err x) = refl
+
+  module _ {c : Contract} {n : ℕ} (D : DeclaredAs s t d c n) {rows : List (List NamePlace)} {taken : List ℕ} {p : ℕ} (b : Building c rows taken p) (more : p < d .count) where
+    next : drop p (c .declarations) ≡ getD (c .declarations) p [] ∷ drop (suc p) (c .declarations)
+    next = drop-cons (c .declarations) p [] (omega (arith, D .count))
+
+    pub building-err : {x : CompileError} → build (getD (c .declarations) p []) ≡ err x → buildAll (c .declarations) ≡ err x
+    unfolding buildAll
+    building-err e = b .same ∙ rw (next, e, buildAll)
+
+    pub building-more : (x : List NamePlace) (y : ℕ) {v : Table} → build (getD (c .declarations) p []) ≡ ok v → tableOf s t (pathAt d (set rows p x) (set taken p y) p) ≡ v → Building c (set rows p x) (set taken p y) (p + 1)
+    unfolding buildAll
+    building-more x y {v} e q = record { same = b .same ∙ rw (next, e, buildAll) (rw (add-one p, snoc (set rows p x) (set taken p y) 0 p, kept rows taken p x y 0 p (omega arith)) (go (buildAll (drop (suc p) (c .declarations))))) }
+      where
+        z : 0 + p ≡ p
+        z = omega arith
+
+        go : (r : Result (List Table)) → ((r >>= λ ts. ok (v ∷ ts)) >>= λ ts. ok (tablesFrom s t d rows taken 0 p ++ ts)) ≡ (r >>= λ ts. ok ((tablesFrom s t d rows taken 0 p ++ tableOf s t (pathAt d (set rows p x) (set taken p y) (0 + p)) ∷ []) ++ ts))
+        go (ok ts) = rw (z, q) (ap ok (sym (append-assoc (tablesFrom s t d rows taken 0 p) (v ∷ []) ts)))
+        go (err x) = refl
+
+  pub building-all : {c : Contract} {n : ℕ} → DeclaredAs s t d c n → {rows : List (List NamePlace)} {taken : List ℕ} {p : ℕ} → Building c rows taken p → d .count ≤ p → p ≤ d .count → buildAll (c .declarations) ≡ ok (tablesOf s t d rows taken)
+  unfolding buildAll tablesOf
+  building-all {c} D {rows} {taken} {p} b h k =
+      let e : p ≡ d .count = omega arith in
+      b .same ∙ rw (drop-of-length-le (c .declarations) {i = p} (omega (arith, D .count)), e) (ap ok (append-nil (tablesFrom s t d rows taken 0 (d .count))))
+
+-- the paths that are built can be used
+abbrev pub Usable : List ℕ → List ℕ → Declared → List (List NamePlace) → List ℕ → ℕ → Type 0
+Usable s t d rows taken p = (q : ℕ) → q < p → PathReady s t (getD (d .firsts) q 0) (getD (d .counts) q 0) (pathAt d rows taken q)
+
+module _ (s t : List ℕ) (d : Declared) (G : Given s t d) {p : ℕ} (more : p < d .count) where
+  abbrev here : Items s t d (G .contract) (G .count) p
+  here = G .declared .items p more
+
+  pub items-at : ItemsAt s t (getD (d .counts) p 0) (getD (d .firsts) p 0)
+  items-at = record { tree = getD (G .contract .declarations) p []; next = getD (d .firsts) p 0 + getD (d .counts) p 0; spells = here .spells; count = G .count; within = here .within; rows = G .rows }
+
+  module _ (u : Used) {n j : ℕ} (B : Built s t (getD (G .contract .declarations) p []) j u) (a : u .answer ≡ Pass n) where
+    formed : WellFormed s t (u .path)
+    formed = B .onward n a .1
+
+    same-items : params (tableOf s t (u .path)) ≡ itemsDown s t (getD (d .firsts) p 0) (getD (d .counts) p 0)
+    same-items = build-params (getD (G .contract .declarations) p []) (result-pass s t u (B .result) a) ∙ items-are s t (here .spells)
+
+    count-is : u .path .count ≡ getD (d .counts) p 0
+    count-is = path-count s t (u .path) (getD (d .firsts) p 0) (getD (d .counts) p 0) formed same-items
+
+    -- the path as it is put among the others
+    pub put-is : (rows : List (List NamePlace)) (taken : List ℕ) → length rows ≡ 32 → length taken ≡ 32 → d .count ≤ 32 → pathAt d (set rows p (u .path .places)) (set taken p (u .path .taken)) p ≡ u .path
+    put-is rows taken f g h = same-path s t d rows taken p (u .path .places) (u .path .taken) (omega arith) (omega arith) ∙ ap (λ c. record { places = u .path .places; count = c; taken = u .path .taken }) (sym count-is)
+
+    pub usable-more : (rows : List (List NamePlace)) (taken : List ℕ) → length rows ≡ 32 → length taken ≡ 32 → d .count ≤ 32 → Usable s t d rows taken p → Usable s t d (set rows p (u .path .places)) (set taken p (u .path .taken)) (p + 1)
+    usable-more rows taken f g h r q i = choose (eqb q p) refl
+      where
+        choose : (b : Bool) → eqb q p ≡ b → PathReady s t (getD (d .firsts) q 0) (getD (d .counts) q 0) (pathAt d (set rows p (u .path .places)) (set taken p (u .path .taken)) q)
+        choose true e = subst (λ q. PathReady s t (getD (d .firsts) q 0) (getD (d .counts) q 0) (pathAt d (set rows p (u .path .places)) (set taken p (u .path .taken)) q)) (sym (eqb-true q p e)) (subst (PathReady s t (getD (d .firsts) p 0) (getD (d .counts) p 0)) (sym (put-is rows taken f g h)) (record { formed = formed; items = items-at; same = same-items }))
+        choose false e = let o = eqb-false q p e in subst (PathReady s t (getD (d .firsts) q 0) (getD (d .counts) q 0)) (sym (other-path s t d rows taken p (u .path .places) (u .path .taken) q o)) (r q (omega arith))
+
+-- the answer in numbers
+module _ (s t : List ℕ) (d : Declared) {c : Contract} {n : ℕ} (D : DeclaredAs s t d c n) where
+  pub built-fault : (rows : List (List NamePlace)) (taken out out′ : List ℕ) (x : CompileError) → length out ≡ 7 → buildAll (c .declarations) ≡ err x → out′ ≡ faulted out x → Moved s t d (started (c .declarations)) (d .block) rows taken out′
+  unfolding started
+  built-fault rows taken out out′ x full e q =
+      let f = faulted-says out x (tablesOf s t d rows taken) full in
+      record {
+        result = rw (q, e) (f .0);
+        full = ap length q ∙ f .2;
+        next = λ z. absurd (f .1 (sym (ap (λ o. getD o 0 0) q) ∙ z));
+        ready = λ z. absurd (f .1 (sym (ap (λ o. getD o 0 0) q) ∙ z));
+      }
+
+  pub built-all : (rows : List (List NamePlace)) (taken out out′ : List ℕ) → length out ≡ 7 → branchIn out ≡ 0 → Ready s t d rows taken → buildAll (c .declarations) ≡ ok (tablesOf s t d rows taken) → out′ ≡ passed out (d .block) → Moved s t d (started (c .declarations)) (d .block) rows taken out′
+  unfolding started
+  built-all rows taken out out′ full b r e q =
+      let p = passed-says out (d .block) (tablesOf s t d rows taken) full in
+      record {
+        result = rw (q, e, ← b) (p .0);
+        full = ap length q ∙ p .2;
+        next = λ z. ap (λ o. getD o 5 0) q ∙ p .1;
+        ready = λ z. r;
+      }

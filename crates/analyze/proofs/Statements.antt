@@ -1,0 +1,300 @@
+-- The statements of a block: what the walk over them answers, from what its steps answer.
+use Prim.Native.Nat.{ℕ, zero, suc, _+_, _-_, _≤_, _<_}
+use native.Mathlib.Numerals.{add-one}
+use native.Mathlib.Omega.{arith}
+use mathlib.Core.Bool.{Bool, true, false}
+use mathlib.Core.List.{List, [], _∷_}
+use mathlib.Core.Logic.{_⊎_, inl, inr}
+use mathlib.Core.Option.{Option, some, none}
+use mathlib.Core.Path.{_≡_, refl, sym, ap, _∙_, subst}
+use borrow.Author.Tests.{ltb-true, ltb-false}
+use lib.Dec.{ltb}
+use lib.ListN.{length, getD, set, getElem?}
+use Rattle.ast.specs.declared.Target.{Target}
+use Rattle.ast.specs.declared.Location.{Location}
+use Rattle.ast.specs.declared.LocktimeOp.{LocktimeOp}
+use Rattle.ast.specs.declared.Signed.{Signed}
+use Rattle.ast.specs.declared.ErrorKind.the-variants.{DeclarationPathMismatch}
+use Rattle.ast.specs.declared.CompileError.{CompileError}
+use Rattle.ast.specs.declared.Checked.{Checked}
+use Rattle.ast.specs.declared.Checked.the-variants.{Ok, Err}
+use Rattle.ast.specs.Tree.{Expression, Statement, IfStatement, IfElseStatement, LocktimeStatement, VerifyStatement, ExpressionStatement, Block, []ᵇ, _∷ᵇ_}
+use Rattle.listing.specs.declared.Line.{Line}
+use Rattle.listing.specs.declared.StatementLine.{StatementLine}
+use Rattle.reader.specs.Spells.{SpellsExpression, SpellsStatement, SpellsBlock, SpellsStatements}
+use Rattle.reader.proofs.Inversion.{StatementFrom}
+use Rattle.reader.proofs.Agree.{expression-on, statement-on, block-on, statements-on}
+use Rattle.rows.specs.Rows.{lineIn}
+use Rattle.nodes.specs.Stands.{Stands, ExpressionAt, StatementAt, BlockAt}
+use Rattle.nodes.proofs.Laws.{below}
+use Rattle.rules.specs.Result.{Result, ok, err, _>>=_, _>>_}
+use Rattle.rules.specs.Table.{Table}
+use Rattle.rules.specs.Limits.{wait}
+use Rattle.rules.specs.Walk.{Walked as Walk, tableAt, examineAt, cross, walkStatement, walk}
+use Rattle.usage.specs.declared.NamePlace.{NamePlace}
+use Rattle.usage.specs.declared.Path.{Path}
+use Rattle.usage.specs.Path.{tableOf}
+use Rattle.analyze.specs.declared.Declared.{Declared}
+use Rattle.analyze.specs.State.{pathAt, tablesOf, Ready, faultIn, branchIn, outcome, Moved, examined, passed, settled}
+use Rattle.analyze.proofs.State.{faulted-says, passed-says, outcome-pass, outcome-fault, table-at, table-past}
+
+-- the same step under another name of its result
+pub moved-as : {s t : List ℕ} {d : Declared} {w v : Result Walk} {j k : ℕ} {rows : List (List NamePlace)} {taken out : List ℕ} → Moved s t d w j rows taken out → w ≡ v → j ≡ k → Moved s t d v k rows taken out
+moved-as m e q = record { result = m .result ∙ e; full = m .full; next = λ z. m .next z ∙ q; ready = m .ready }
+
+-- a step that refused, as the result of what would have gone on
+pub moved-stop : {s t : List ℕ} {d : Declared} {w : Result Walk} {j : ℕ} {rows : List (List NamePlace)} {taken out : List ℕ} → Moved s t d w j rows taken out → (getD out 0 0 ≡ 0 → ⊥) → (v : Result Walk) (k : ℕ) → ((x : CompileError) → w ≡ err x → v ≡ err x) → Moved s t d v k rows taken out
+moved-stop {s} {t} {d} {rows = rows} {taken = taken} {out = out} m z v k f =
+    let e = outcome-fault (tablesOf s t d rows taken) out z in
+    record { result = e ∙ sym (f (faultIn out) (sym (m .result) ∙ e)); full = m .full; next = λ y. absurd (z y); ready = λ y. absurd (z y) }
+
+-- a step that passed
+pub moved-on : {s t : List ℕ} {d : Declared} {w : Result Walk} {j : ℕ} {rows : List (List NamePlace)} {taken out : List ℕ} → Moved s t d w j rows taken out → getD out 0 0 ≡ 0 → w ≡ ok (record { tables = tablesOf s t d rows taken; branch = branchIn out })
+moved-on {s} {t} {d} {rows = rows} {taken = taken} {out = out} m z = sym (m .result) ∙ outcome-pass (tablesOf s t d rows taken) out z
+
+-- a wait
+pub moved-wait : {s t : List ℕ} (d : Declared) (rows : List (List NamePlace)) (taken out : List ℕ) {i j : ℕ} {x : Statement} {l : Location} {o : LocktimeOp} {v : Signed} → length out ≡ 7 → Ready s t d rows taken → x ≡ LocktimeStatement l (suc i) o v → j ≡ suc i → (c : Checked) (out′ : List ℕ) → c ≡ wait l o v → out′ ≡ settled out c (i + 1) → Moved s t d (walkStatement x (d .target) (tablesOf s t d rows taken) (branchIn out)) j rows taken out′
+unfolding walkStatement settled
+moved-wait {s = s} {t = t} d rows taken out {i} {j} {x} {l} {o} {v} full r x-is j-is c out′ e q = go c e q
+  where
+    ts : List Table
+    ts = tablesOf s t d rows taken
+
+    is : walkStatement x (d .target) ts (branchIn out) ≡ (wait l o v >> ok (record { tables = ts; branch = branchIn out }))
+    is = ap (λ y. walkStatement y (d .target) ts (branchIn out)) x-is
+
+    go : (c : Checked) → c ≡ wait l o v → out′ ≡ settled out c (i + 1) → Moved s t d (walkStatement x (d .target) ts (branchIn out)) j rows taken out′
+    go Ok e q =
+        let p = passed-says out (i + 1) ts full in
+        record {
+          result = rw (q, is, ← e) (p .0);
+          full = ap length q ∙ p .2;
+          next = λ z. ap (λ o. getD o 5 0) q ∙ p .1 ∙ add-one i ∙ sym j-is;
+          ready = λ z. r;
+        }
+    go (Err y) e q =
+        let p = faulted-says out y ts full in
+        record {
+          result = rw (q, is, ← e) (p .0);
+          full = ap length q ∙ p .2;
+          next = λ z. absurd (p .1 (sym (ap (λ o. getD o 0 0) q) ∙ z));
+          ready = λ z. absurd (p .1 (sym (ap (λ o. getD o 0 0) q) ∙ z));
+        }
+
+-- a condition that passed: the table after it, and the path in use
+pub record Passed (g : Target) (l : Location) (e : Expression) (ts : List Table) (n : ℕ) (w : Walk) : Type 0 where
+  pub table : Table
+  pub is : examineAt g l e ts n ≡ ok table
+  pub after : w ≡ record { tables = set ts n table; branch = n }
+
+pub examined-ok : (g : Target) (l : Location) (e : Expression) (ts : List Table) (n : ℕ) {w : Walk} → examined g l e ts n ≡ ok w → Passed g l e ts n w
+unfolding examined
+examined-ok g l e ts n {w} h = go (examineAt g l e ts n) refl
+  where
+    go : (y : Result Table) → examineAt g l e ts n ≡ y → Passed g l e ts n w
+    go (ok v) q = let f : _≡_ {A = Result Walk} (ok (record { tables = set ts n v; branch = n })) (ok w) = rw q at h in let a : record { tables = set ts n v; branch = n } ≡ w = cc in record { table = v; is = q; after = sym a }
+    go (err x) q = let f : _≡_ {A = Result Walk} (err x) (ok w) = rw q at h in let o : _≡_ {A = ℕ} 0 1 = cc in absurd (omega arith)
+
+examined-err : (g : Target) (l : Location) (e : Expression) (ts : List Table) (n : ℕ) {x : CompileError} → examined g l e ts n ≡ err x → examineAt g l e ts n ≡ err x
+unfolding examined
+examined-err g l e ts n {x} h = go (examineAt g l e ts n) refl
+  where
+    go : (y : Result Table) → examineAt g l e ts n ≡ y → examineAt g l e ts n ≡ err x
+    go (ok v) q = let f : _≡_ {A = Result Walk} (ok (record { tables = set ts n v; branch = n })) (err x) = rw q at h in let o : _≡_ {A = ℕ} 0 1 = cc in absurd (omega arith)
+    go (err y) q = let f : _≡_ {A = Result Walk} (err y) (err x) = rw q at h in let a : y ≡ x = cc in q ∙ ap err a
+
+-- an if, with an else or without: its condition and its block, and what the walk makes of them
+abbrev pub Rest : Bool → (ℕ → Line) → List ℕ → Location → Expression → Block → ℕ → Statement → ℕ → Type 0
+Rest false L s l e b m x j = (m ≡ j) × ((g : Target) (ts : List Table) (n : ℕ) (v : Table) → examineAt g l e ts n ≡ ok v → walkStatement x g ts n ≡ walk b g (set ts n v) n)
+Rest true L s l e b m x j = (c : Block) × SpellsBlock L s m c j × ((g : Target) (ts : List Table) (n : ℕ) (v : Table) (w : Walk) → examineAt g l e ts n ≡ ok v → walk b g (set ts n v) n ≡ ok w → walkStatement x g ts n ≡ (cross l v w >>= λ w′. walk c g (w′ .tables) (w′ .branch)))
+
+pub record IfParts (L : ℕ → Line) (s : List ℕ) (l : Location) (h : Bool) (i : ℕ) (x : Statement) (j : ℕ) : Type 0 where
+  pub cond : Expression
+  pub mid : ℕ
+  pub spells : SpellsExpression L s (i + 1) cond mid
+  pub block : Block
+  pub end : ℕ
+  pub inner : SpellsBlock L s mid block end
+  pub within : end ≤ j
+  pub stops : (g : Target) (ts : List Table) (n : ℕ) (y : CompileError) → examined g l cond ts n ≡ err y → walkStatement x g ts n ≡ err y
+  pub stops₂ : (g : Target) (ts : List Table) (n : ℕ) (v : Table) (y : CompileError) → examineAt g l cond ts n ≡ ok v → walk block g (set ts n v) n ≡ err y → walkStatement x g ts n ≡ err y
+  pub rest : Rest h L s l cond block end x j
+
+pub if-parts : (L : ℕ → Line) (s : List ℕ) (l : Location) (h : Bool) (i : ℕ) (x : Statement) (j : ℕ) → StatementFrom L s (StatementLine.IfStatement l h) i x j → IfParts L s l h i x j
+unfolding walkStatement
+if-parts L s l false i x j (a, b, k, u, v, e) = record {
+  cond = a;
+  mid = k;
+  spells = subst (λ m. SpellsExpression L s m a k) (sym (add-one i)) u;
+  block = b;
+  end = j;
+  inner = v;
+  within = omega arith;
+  stops = λ g ts n y q. ap (λ x. walkStatement x g ts n) e ∙ rw (examined-err g l a ts n q, walkStatement);
+  stops₂ = λ g ts n v y p q. ap (λ x. walkStatement x g ts n) e ∙ rw (p, walkStatement) q;
+  rest = (refl, λ g ts n v p. ap (λ x. walkStatement x g ts n) e ∙ rw (p, walkStatement));
+}
+if-parts L s l true i x j (a, b, c, k, m, u, v, w, e) = record {
+  cond = a;
+  mid = k;
+  spells = subst (λ m. SpellsExpression L s m a k) (sym (add-one i)) u;
+  block = b;
+  end = m;
+  inner = v;
+  within = omega (arith, block-on L s w);
+  stops = λ g ts n y q. ap (λ x. walkStatement x g ts n) e ∙ rw (examined-err g l a ts n q, walkStatement);
+  stops₂ = λ g ts n v y p q. ap (λ x. walkStatement x g ts n) e ∙ rw (p, q, walkStatement);
+  rest = (c, w, λ g ts n v y p q. ap (λ x. walkStatement x g ts n) e ∙ rw (p, q, walkStatement));
+}
+
+-- the table of a path that was put back
+element-set : {A : Type 0} (xs : List A) (i : ℕ) (v y : A) → getElem? xs i ≡ some y → getElem? (set xs i v) i ≡ some v
+element-set [] i v y h = let z : _≡_ {A = ℕ} 0 1 = cc in absurd (omega arith)
+element-set (x ∷ xs) zero v y h = refl
+element-set (x ∷ xs) (suc i) v y h = element-set xs i v y h
+
+-- after a condition that passed: the tables are those of the rows, and the path's own is the one after the condition
+pub record Conditioned (s t : List ℕ) (d : Declared) (l : Location) (e : Expression) (ts : List Table) (n : ℕ) (rows : List (List NamePlace)) (taken out : List ℕ) : Type 0 where
+  pub is : examineAt (d .target) l e ts n ≡ ok (tableOf s t (pathAt d rows taken n))
+  pub tables : set ts n (tableOf s t (pathAt d rows taken n)) ≡ tablesOf s t d rows taken
+  pub branch : branchIn out ≡ n
+  pub within : n < d .count
+
+-- a path that is examined is one of those declared
+path-within : (s t : List ℕ) (d : Declared) (l : Location) (e : Expression) (rows : List (List NamePlace)) (taken : List ℕ) (n : ℕ) {v : Table} → examineAt (d .target) l e (tablesOf s t d rows taken) n ≡ ok v → n < d .count
+unfolding examineAt tableAt
+path-within s t d l e rows taken n {v} h = go (ltb n (d .count)) refl
+  where
+    go : (b : Bool) → ltb n (d .count) ≡ b → n < d .count
+    go true q = ltb-true n (d .count) q
+    go false q = let f : _≡_ {A = Result Table} (err (record { loc = l; kind = DeclarationPathMismatch })) (ok v) = rw (table-past s t d rows taken n (ltb-false n (d .count) q), tableAt) at h in let o : _≡_ {A = ℕ} 0 1 = cc in absurd (omega arith)
+
+pub conditioned : (s t : List ℕ) (d : Declared) (l : Location) (e : Expression) (rows₀ : List (List NamePlace)) (taken₀ : List ℕ) (n : ℕ) {j : ℕ} {rows : List (List NamePlace)} {taken out : List ℕ} → Moved s t d (examined (d .target) l e (tablesOf s t d rows₀ taken₀) n) j rows taken out → getD out 0 0 ≡ 0 → Conditioned s t d l e (tablesOf s t d rows₀ taken₀) n rows taken out
+conditioned s t d l e rows₀ taken₀ n {j} {rows} {taken} {out} m z =
+    let p = examined-ok (d .target) l e (tablesOf s t d rows₀ taken₀) n (moved-on m z) in
+    let ts = ap (λ w. w .tables) (p .after) in
+    let inside : n < d .count = path-within s t d l e rows₀ taken₀ n (p .is) in
+    let same : some (tableOf s t (pathAt d rows taken n)) ≡ some (p .table) = sym (table-at s t d rows taken n inside) ∙ ap (λ ts. getElem? ts n) ts ∙ element-set (tablesOf s t d rows₀ taken₀) n (p .table) (tableOf s t (pathAt d rows₀ taken₀ n)) (table-at s t d rows₀ taken₀ n inside) in
+    let v : tableOf s t (pathAt d rows taken n) ≡ p .table = cc in
+    record {
+      is = p .is ∙ ap ok (sym v);
+      tables = ap (set (tablesOf s t d rows₀ taken₀) n) v ∙ sym ts;
+      branch = ap (λ w. w .branch) (p .after);
+      within = inside;
+    }
+
+-- one statement, and those after it
+pub record ConsStatements (L : ℕ → Line) (s : List ℕ) (k i : ℕ) (b : Block) (j : ℕ) : Type 0 where
+  pub head : Statement
+  pub tail : Block
+  pub mid : ℕ
+  pub is : b ≡ head ∷ᵇ tail
+  pub spells : SpellsStatement L s i head mid
+  pub rest : SpellsStatements L s k mid tail j
+
+cons-statements : {L : ℕ → Line} {s : List ℕ} {k i j : ℕ} {b : Block} → SpellsStatements L s (suc k) i b j → ConsStatements L s k i b j
+cons-statements (SpellsStatements.cons u v) = record { head = _; tail = _; mid = _; is = refl; spells = u; rest = v }
+
+no-statements : {L : ℕ → Line} {s : List ℕ} {n i j : ℕ} {b : Block} → n ≡ 0 → SpellsStatements L s n i b j → (b ≡ []ᵇ) × (i ≡ j)
+no-statements e SpellsStatements.nil = (refl, refl)
+no-statements e (SpellsStatements.cons u v) = absurd (omega arith)
+
+-- in the middle of a block: what is left of it, and that its walk is the block's
+pub record Going (L : ℕ → Line) (s : List ℕ) (g : Target) (left i j : ℕ) (whole : Result Walk) (ts : List Table) (n : ℕ) : Type 0 where
+  pub block : Block
+  pub spells : SpellsStatements L s left i block j
+  pub same : walk block g ts n ≡ whole
+
+module _ {L : ℕ → Line} {s : List ℕ} {g : Target} {count k i j : ℕ} {whole : Result Walk} {ts : List Table} {n : ℕ} (h : Going L s g (count - k) i j whole ts n) (more : k < count) where
+  left : count - k ≡ suc (count - (k + 1))
+  left = omega arith
+
+  pub first : ConsStatements L s (count - (k + 1)) i (h .block) j
+  first = cons-statements (subst (λ x. SpellsStatements L s x i (h .block) j) left (h .spells))
+
+  pub head-within : first .mid ≤ j
+  head-within = statements-on L s (first .rest)
+
+  -- its walk goes on from its first statement
+  pub going-err : (x : CompileError) → walkStatement (first .head) g ts n ≡ err x → whole ≡ err x
+  unfolding walk
+  going-err x e = sym (h .same) ∙ ap (λ b. walk b g ts n) (first .is) ∙ rw (e, walk)
+
+  pub going-on : {m : ℕ} (w : Walk) → walkStatement (first .head) g ts n ≡ ok w → m ≡ first .mid → Going L s g (count - (k + 1)) m j whole (w .tables) (w .branch)
+  unfolding walk
+  going-on {m} w e q = record { block = first .tail; spells = subst (λ x. SpellsStatements L s (count - (k + 1)) x (first .tail) j) (sym q) (first .rest); same = sym (ap (λ b. walk b g ts n) (first .is) ∙ rw (e, walk)) ∙ h .same }
+
+pub going-end : {L : ℕ → Line} {s : List ℕ} {g : Target} {left i j : ℕ} {whole : Result Walk} {ts : List Table} {n : ℕ} → Going L s g left i j whole ts n → left ≡ 0 → (whole ≡ ok (record { tables = ts; branch = n })) × (i ≡ j)
+unfolding walk
+going-end {g = g} {ts = ts} {n = n} h e = let z = no-statements e (h .spells) in (sym (h .same) ∙ ap (λ b. walk b g ts n) (z .0), z .1)
+
+-- the end of a block
+pub moved-end : {s t : List ℕ} (d : Declared) (rows : List (List NamePlace)) (taken out : List ℕ) {whole : Result Walk} {i j : ℕ} (out′ : List ℕ) → length out ≡ 7 → Ready s t d rows taken → (whole ≡ ok (record { tables = tablesOf s t d rows taken; branch = branchIn out })) × (i ≡ j) → out′ ≡ passed out i → Moved s t d whole j rows taken out′
+moved-end {s} {t} d rows taken out {whole} {i} out′ full r e q =
+    let p = passed-says out i (tablesOf s t d rows taken) full in
+    record { result = ap (outcome (tablesOf s t d rows taken)) q ∙ p .0 ∙ sym (e .0); full = ap length q ∙ p .2; next = λ z. ap (λ o. getD o 5 0) q ∙ p .1 ∙ e .1; ready = λ z. r }
+
+-- an if, step by step: its condition has passed
+module _ {L : ℕ → Line} (s t : List ℕ) (d : Declared) {l : Location} {i j : ℕ} {x : Statement} (ts : List Table) (n : ℕ) (rows₁ : List (List NamePlace)) (taken₁ out₁ : List ℕ) where
+  module _ {h : Bool} (P : IfParts L s l h i x j) (C : Conditioned s t d l (P .cond) ts n rows₁ taken₁ out₁) where
+    inner-is : walk (P .block) (d .target) (set ts n (tableOf s t (pathAt d rows₁ taken₁ n))) n ≡ walk (P .block) (d .target) (tablesOf s t d rows₁ taken₁) (branchIn out₁)
+    inner-is = ap (λ w. walk (P .block) (d .target) w n) (C .tables) ∙ ap (walk (P .block) (d .target) (tablesOf s t d rows₁ taken₁)) (sym (C .branch))
+
+    -- its block refuses
+    pub block-stops : {k : ℕ} {rows : List (List NamePlace)} {taken out : List ℕ} → Moved s t d (walk (P .block) (d .target) (tablesOf s t d rows₁ taken₁) (branchIn out₁)) k rows taken out → (getD out 0 0 ≡ 0 → ⊥) → Moved s t d (walkStatement x (d .target) ts n) j rows taken out
+    block-stops m z = moved-stop m z (walkStatement x (d .target) ts n) j (λ y e. P .stops₂ (d .target) ts n (tableOf s t (pathAt d rows₁ taken₁ n)) y (C .is) (inner-is ∙ e))
+
+  -- there is no else
+  pub if-only : {h : Bool} (P : IfParts L s l h i x j) (C : Conditioned s t d l (P .cond) ts n rows₁ taken₁ out₁) → h ≡ false → {rows : List (List NamePlace)} {taken out : List ℕ} → Moved s t d (walk (P .block) (d .target) (tablesOf s t d rows₁ taken₁) (branchIn out₁)) (P .end) rows taken out → Moved s t d (walkStatement x (d .target) ts n) j rows taken out
+  if-only {h} P C e m = go h P C e m
+    where
+      go : (h : Bool) (P : IfParts L s l h i x j) (C : Conditioned s t d l (P .cond) ts n rows₁ taken₁ out₁) → h ≡ false → {rows : List (List NamePlace)} {taken out : List ℕ} → Moved s t d (walk (P .block) (d .target) (tablesOf s t d rows₁ taken₁) (branchIn out₁)) (P .end) rows taken out → Moved s t d (walkStatement x (d .target) ts n) j rows taken out
+      go false P C e m = moved-as m (sym (P .rest .1 (d .target) ts n (tableOf s t (pathAt d rows₁ taken₁ n)) (C .is) ∙ inner-is P C)) (P .rest .0)
+      go true P C e m = let o : _≡_ {A = ℕ} 0 1 = cc in absurd (omega arith)
+
+  -- there is one: its block, and the crossing to it
+  pub record Else (P : IfParts L s l true i x j) (rows₂ : List (List NamePlace)) (taken₂ out₂ : List ℕ) : Type 0 where
+    pub block : Block
+    pub spells : SpellsBlock L s (P .end) block j
+    pub same : walkStatement x (d .target) ts n ≡ (cross l (tableOf s t (pathAt d rows₁ taken₁ n)) (record { tables = tablesOf s t d rows₂ taken₂; branch = branchIn out₂ }) >>= λ w. walk block (d .target) (w .tables) (w .branch))
+
+  pub else-parts : (P : IfParts L s l true i x j) (C : Conditioned s t d l (P .cond) ts n rows₁ taken₁ out₁) {k : ℕ} {rows₂ : List (List NamePlace)} {taken₂ out₂ : List ℕ} → Moved s t d (walk (P .block) (d .target) (tablesOf s t d rows₁ taken₁) (branchIn out₁)) k rows₂ taken₂ out₂ → getD out₂ 0 0 ≡ 0 → Else P rows₂ taken₂ out₂
+  else-parts P C {rows₂ = rows₂} {taken₂ = taken₂} {out₂ = out₂} m z = record {
+    block = P .rest .0;
+    spells = P .rest .1;
+    same = P .rest .2 (d .target) ts n (tableOf s t (pathAt d rows₁ taken₁ n)) (record { tables = tablesOf s t d rows₂ taken₂; branch = branchIn out₂ }) (C .is) (inner-is P C ∙ moved-on m z);
+  }
+
+  module _ {P : IfParts L s l true i x j} {rows₂ : List (List NamePlace)} {taken₂ out₂ : List ℕ} (E : Else P rows₂ taken₂ out₂) {k : ℕ} {rows₃ : List (List NamePlace)} {taken₃ out₃ : List ℕ} (m : Moved s t d (cross l (tableOf s t (pathAt d rows₁ taken₁ n)) (record { tables = tablesOf s t d rows₂ taken₂; branch = branchIn out₂ })) k rows₃ taken₃ out₃) where
+    pub cross-stops : (getD out₃ 0 0 ≡ 0 → ⊥) → Moved s t d (walkStatement x (d .target) ts n) j rows₃ taken₃ out₃
+    cross-stops z = moved-stop m z (walkStatement x (d .target) ts n) j (λ y e. E .same ∙ rw e)
+
+    pub if-else : getD out₃ 0 0 ≡ 0 → {rows : List (List NamePlace)} {taken out : List ℕ} → Moved s t d (walk (E .block) (d .target) (tablesOf s t d rows₃ taken₃) (branchIn out₃)) j rows taken out → Moved s t d (walkStatement x (d .target) ts n) j rows taken out
+    if-else z v = moved-as v (sym (E .same ∙ rw (moved-on m z))) refl
+
+-- the condition of an if, and its block, stand below it
+pub if-holds : {s t : List ℕ} {l : Location} {h : Bool} {i : ℕ} (st : StatementAt s t i) (P : IfParts (lineIn t) s l h i (st .tree) (st .next)) → ExpressionAt s t (i + 1) × BlockAt s t (P .mid)
+if-holds {s} {t} st P = (below (SpellsExpression (lineIn t) s) st (P .spells) (omega (arith, block-on (lineIn t) s (P .inner), P .within)), below (SpellsBlock (lineIn t) s) st (P .inner) (P .within))
+
+-- what a block's first statement says of the rows
+pub statement-below : {s t : List ℕ} {i : ℕ} (st : BlockAt s t i) {k m : ℕ} {x : Statement} → SpellsStatement (lineIn t) s k x m → m ≤ st .next → StatementAt s t k
+statement-below {s} {t} st sp h = below (SpellsStatement (lineIn t) s) st sp h
+
+-- the expression of a verify or a return
+pub at-next : {L : ℕ → Line} {s : List ℕ} {i j : ℕ} {e : Expression} → SpellsExpression L s (suc i) e j → SpellsExpression L s (i + 1) e j
+at-next {L} {s} {i} {j} {e} sp = subst (λ m. SpellsExpression L s m e j) (sym (add-one i)) sp
+
+pub operand-stands : {s t : List ℕ} {i : ℕ} (st : StatementAt s t i) {e : Expression} → SpellsExpression (lineIn t) s (suc i) e (st .next) → ExpressionAt s t (i + 1)
+operand-stands {s} {t} st sp = below (SpellsExpression (lineIn t) s) st (at-next sp) (omega arith)
+
+pub verify-moves : {s t : List ℕ} {d : Declared} {x : Statement} {l : Location} {e : Expression} (ts : List Table) (n : ℕ) {j : ℕ} {rows : List (List NamePlace)} {taken out : List ℕ} → x ≡ VerifyStatement l e → Moved s t d (examined (d .target) l e ts n) j rows taken out → Moved s t d (walkStatement x (d .target) ts n) j rows taken out
+unfolding examined walkStatement
+verify-moves {d = d} ts n h m = moved-as m (ap (λ y. walkStatement y (d .target) ts n) (sym h)) refl
+
+pub return-moves : {s t : List ℕ} {d : Declared} {x : Statement} {l : Location} {e : Expression} (ts : List Table) (n : ℕ) {j : ℕ} {rows : List (List NamePlace)} {taken out : List ℕ} → x ≡ ExpressionStatement l e → Moved s t d (examined (d .target) l e ts n) j rows taken out → Moved s t d (walkStatement x (d .target) ts n) j rows taken out
+unfolding examined walkStatement
+return-moves {d = d} ts n h m = moved-as m (ap (λ y. walkStatement y (d .target) ts n) (sym h)) refl
+
+-- the crossing from the path that was kept after the condition
+pub crossed-from : {s t : List ℕ} {d : Declared} (l : Location) (w : Walk) {k : ℕ} {rows : List (List NamePlace)} {taken out : List ℕ} {p q : Path} → p ≡ q → Moved s t d (cross l (tableOf s t p) w) k rows taken out → Moved s t d (cross l (tableOf s t q) w) k rows taken out
+crossed-from {s} {t} {d} l w {k} {rows} {taken} {out} e m = subst (λ p. Moved s t d (cross l (tableOf s t p) w) k rows taken out) e m

@@ -1,0 +1,131 @@
+use mathlib.Core.List.{[]}
+use mathlib.Core.Path.{ap, _∙_}
+use lib.ListN.{length, getD}
+use Rattle.analyze.proofs.State.{turned-says, turned-branch}
+use Rattle.analyze.proofs.Counting.{block-stands}
+use Rattle.analyze.proofs.Analyzing.{stops-at-shape, stops-at-build, stops-at-walk, ends, given-at}
+use borrow.Author.Needs.{needs}
+use Rattle.analyze.proofs.analyze.Statement.{statement}
+use Rattle.analyze.proofs.analyze.Tie as tie
+
+check-shape-requires : tie.Need-check-shape-requires
+check-shape-requires c κs =
+    let pre = c .before .before .pre in
+    let C = pre .0 in
+    let g = given-at C (pre .1 (C .contract) (C .spells)) in
+    (c .before .before .args .listing .now, g)
+
+enum-known-shape : tie.Need-enum-known-shape
+enum-known-shape c = search needs
+
+put-fault-requires : tie.Need-put-fault-requires
+put-fault-requires c κs = search needs
+
+no-rows-requires : tie.Need-no-rows-requires
+no-rows-requires c κs = search needs
+
+returns : tie.Need-returns
+returns c =
+    let a = c .before .before .before .before .before .before .before .before .before .args in
+    let pre = c .before .before .before .before .before .before .before .before .before .pre in
+    λ x sp.
+    let D = pre .1 x sp in
+    stops-at-shape D (a .out .now) _ (pre .3) (c .before .before .before .before .before .before .check-shape .ensures _ x _ D) (c .before .before .before .before .shape .given .1) (c .before .put-fault .ensures) _
+
+enum-told : tie.Need-enum-told
+enum-told c = search needs
+
+put-branch-requires : tie.Need-put-branch-requires
+put-branch-requires c κs = search needs
+
+build-tables-requires : tie.Need-build-tables-requires
+build-tables-requires c κs =
+    let pre = c .before .before .before .before .before .before .before .before .before .pre in
+    let C = pre .0 in
+    let g = given-at C (pre .1 (C .contract) (C .spells)) in
+    let a = c .before .before .before .before .before .before .before .before .before .args in
+    let put = c .before .before .put-branch .ensures in
+    (g, pre .2, ap length put ∙ turned-says (a .out .now) 0 [] (pre .3) .2, ap (λ o. getD o 6 0) put ∙ turned-branch (a .out .now) 0 (pre .3))
+
+element-copy-out-if1 : tie.Need-element-copy-out-if1
+element-copy-out-if1 c = search needs
+
+returns-2 : tie.Need-returns-2
+returns-2 c =
+    let a = c .before .before .before .before .before .before .before .before .before .before .before .before .args in
+    let pre = c .before .before .before .before .before .before .before .before .before .before .before .before .pre in
+    λ x sp.
+    let D = pre .1 x sp in
+    let shape = c .before .before .before .before .before .before .before .before .before .check-shape .ensures _ x _ D in
+    let passes = c .before .before .before .before .before .before .before .enum-told .given .1 in
+    let m₁ = c .before .before .build-tables .ensures x _ D in
+    stops-at-build D shape passes m₁ (c .if1 .taken)
+
+analyze-block-requires : tie.Need-analyze-block-requires
+analyze-block-requires c κs =
+    let pre = c .before .before .before .before .before .before .before .before .before .before .before .before .before .before .pre in
+    let C = pre .0 in
+    let g = given-at C (pre .1 (C .contract) (C .spells)) in
+    let m₁ = c .before .before .before .before .build-tables .ensures _ _ (g .declared) in
+    (block-stands g, m₁ .ready (c .before .before .if1 .left), m₁ .full)
+
+element-copy-out-if2 : tie.Need-element-copy-out-if2
+element-copy-out-if2 c = search needs
+
+returns-3 : tie.Need-returns-3
+returns-3 c =
+    let a = c .before .before .before .before .before .before .before .before .before .before .before .before .before .before .before .before .before .args in
+    let pre = c .before .before .before .before .before .before .before .before .before .before .before .before .before .before .before .before .before .pre in
+    λ x sp.
+    let D = pre .1 x sp in
+    let shape = c .before .before .before .before .before .before .before .before .before .before .before .before .before .before .check-shape .ensures _ x _ D in
+    let passes = c .before .before .before .before .before .before .before .before .before .before .before .before .enum-told .given .1 in
+    let m₁ = c .before .before .before .before .before .before .before .build-tables .ensures x _ D in
+    let z₁ = c .before .before .before .before .before .if1 .left in
+    let m₂ = c .before .before .analyze-block .ensures (x .block) _ (D .block) in
+    stops-at-walk D shape passes m₁ z₁ m₂ (c .if2 .taken)
+
+check-unused-requires : tie.Need-check-unused-requires
+check-unused-requires c κs =
+    let pre = c .before .before .before .before .before .before .before .before .before .before .before .before .before .before .before .before .before .before .pre in
+    let C = pre .0 in
+    let g = given-at C (pre .1 (C .contract) (C .spells)) in
+    let m₂ = c .before .before .before .analyze-block .ensures _ _ (g .declared .block) in
+    m₂ .ready (c .before .if2 .left)
+
+put-checked-requires : tie.Need-put-checked-requires
+put-checked-requires c κs = search needs
+
+returns-4 : tie.Need-returns-4
+returns-4 c =
+    let a = c .before .before .before .before .before .before .before .before .before .before .before .before .before .before .before .before .before .before .before .before .before .args in
+    let pre = c .before .before .before .before .before .before .before .before .before .before .before .before .before .before .before .before .before .before .before .before .before .pre in
+    λ x sp.
+    let D = pre .1 x sp in
+    let shape = c .before .before .before .before .before .before .before .before .before .before .before .before .before .before .before .before .before .before .check-shape .ensures _ x _ D in
+    let passes = c .before .before .before .before .before .before .before .before .before .before .before .before .before .before .before .before .enum-told .given .1 in
+    let m₁ = c .before .before .before .before .before .before .before .before .before .before .before .build-tables .ensures x _ D in
+    let z₁ = c .before .before .before .before .before .before .before .before .before .if1 .left in
+    let m₂ = c .before .before .before .before .before .before .analyze-block .ensures (x .block) _ (D .block) in
+    ends D shape passes m₁ z₁ m₂ (c .before .before .before .before .if2 .left) _ _ _ (c .before .before .check-unused .ensures) (c .put-checked .ensures)
+
+pub analyze-spec : {M : Type 1} → statement M
+analyze-spec =
+    tie.close
+    (tie.spec
+    check-shape-requires
+    enum-known-shape
+    put-fault-requires
+    no-rows-requires
+    returns
+    enum-told
+    put-branch-requires
+    build-tables-requires
+    element-copy-out-if1
+    returns-2
+    analyze-block-requires
+    element-copy-out-if2
+    returns-3
+    check-unused-requires
+    put-checked-requires
+    returns-4)

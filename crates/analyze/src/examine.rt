@@ -1,0 +1,60 @@
+// A verify, return or condition on one path: usage, then truth, then check_security.
+ghost use mathlib.Core.Path.{_≡_};
+ghost use Prim.Native.Nat.{ℕ, _<_};
+ghost use lib.ListN.{getD};
+ghost use Rattle.ast.specs.Tree.{Expression};
+ghost use Rattle.nodes.specs.declared.Answer.{Answer};
+ghost use Rattle.rows.specs.Rows.{lineIn};
+ghost use Rattle.reader.specs.Spells.{SpellsExpression};
+ghost use Rattle.nodes.specs.Stands.{ExpressionAt};
+ghost use Rattle.rules.specs.Walk.{examine as examineOf};
+ghost use Rattle.usage.specs.Path.{tableOf, Walked};
+ghost use Rattle.analyze.specs.State.{PathReady};
+use crate::Declared;
+use ast::CompileError;
+use limits::check_security;
+use nodes::Answer;
+use types::Context;
+use types::check_type_boolean;
+use usage::Path;
+use usage::Used;
+use usage::check_variable;
+
+// A path with a fault for its answer.
+fn refused(u: Used, x: CompileError) -> Used
+    ensures { λ r. ⌜ r ≡ record { path = u .path; answer = Answer.Fault x } ⌝ }
+{
+    let path = u.path;
+    Used {
+        path,
+        answer: Answer::Fault(x),
+    }
+}
+
+pub fn examine(listing: &[u8], table: &[u32], d: Declared, p: usize, i: usize, path: Path) -> Used
+    requires { ⌜ ExpressionAt (now listing) (now table) i × PathReady (now listing) (now table) (getD (d .firsts) p 0) (getD (d .counts) p 0) path × (p < 32) ⌝ }
+    ensures { λ r. ⌜ ((e : Expression) (j : ℕ) → SpellsExpression (lineIn (now (table .entry))) (now (listing .entry)) i e j → Walked (now (listing .entry)) (now (table .entry)) path (examineOf (d .target) e (tableOf (now (listing .entry)) (now (table .entry)) path)) j r) ⌝ }
+{
+    let used = check_variable(listing, table, i, path);
+    let answer = used.answer;
+    let Answer::Pass(_) = answer else {
+        return used;
+    };
+    let target = d.target;
+    let firsts = d.firsts;
+    let counts = d.counts;
+    let context = Context {
+        target,
+        first: firsts[p] as usize,
+        count: counts[p],
+    };
+    let typed = check_type_boolean(listing, table, context, i);
+    if let Answer::Fault(x) = typed {
+        return refused(used, x);
+    }
+    let safe = check_security(listing, table, i);
+    if let Answer::Fault(x) = safe {
+        return refused(used, x);
+    }
+    used
+}

@@ -1,0 +1,96 @@
+// A literal's length, measured over its digits in the listing.
+ghost use mathlib.Core.Path.{_≡_};
+ghost use Prim.Native.Nat.{_+_, _*_, _≤_, _<_};
+ghost use lib.ListN.{length, take, drop};
+ghost use Rattle.rules.specs.Keys.{within, isDigit, allDigits, pushed};
+ghost use Rattle.text.specs.Text.{hexValue, unhex, bytesOf};
+use text::Place;
+
+fn wide(b: u8) -> u32
+    ensures { λ r. ⌜ r ≡ b ⌝ }
+{
+    b as u32
+}
+
+// What a lower-case hex digit stands for. A byte that is none gets what the definition gives it, so nothing is asked of the listing's bytes.
+fn hex_value(b: u8) -> u32
+    ensures { λ r. ⌜ r ≡ hexValue b ⌝ }
+    ensures { λ r. ⌜ r < 256 ⌝ }
+{
+    if b < 48 {
+        return 0;
+    }
+    if b <= 57 {
+        return wide(b) - 48;
+    }
+    if b < 87 {
+        return 0;
+    }
+    wide(b) - 87
+}
+
+// From `low` to `high`, both included.
+fn is_within(low: u32, high: u32, b: u32) -> bool
+    ensures { λ r. ⌜ r ≡ within low high b ⌝ }
+{
+    if low <= b {
+        return b <= high;
+    }
+    false
+}
+
+// A hex digit of either case.
+pub fn is_digit(b: u32) -> bool
+    ensures { λ r. ⌜ r ≡ isDigit b ⌝ }
+{
+    if is_within(48, 57, b) {
+        return true;
+    }
+    if is_within(65, 70, b) {
+        return true;
+    }
+    is_within(97, 102, b)
+}
+
+// The byte that two digits of the listing spell.
+pub fn byte_of(a: u8, b: u8) -> u32
+    ensures { λ r. ⌜ r ≡ hexValue a * 16 + hexValue b ⌝ }
+{
+    let high = hex_value(a);
+    let low = hex_value(b);
+    high * 16 + low
+}
+
+// Whether the bytes that `len` digits of the listing spell, from `at` on, are all hex digits. Each digit is read at most once.
+pub fn are_digits(listing: &[u8], at: usize, len: usize) -> bool
+    requires { ⌜ at + len ≤ length (now listing) ⌝ }
+    ensures { λ r. ⌜ r ≡ allDigits (unhex (take len (drop at (now (listing .entry))))) ⌝ }
+{
+    let mut i = at;
+    let mut left = len;
+    while 1 < left {
+        let b = byte_of(listing[i], listing[i + 1]);
+        if !is_digit(b) {
+            return false;
+        }
+        i += 2;
+        left -= 2;
+    }
+    true
+}
+
+// A literal's length: half its bytes if they are an even count of hex digits, else its bytes.
+pub fn literal_length(listing: &[u8], x: Place) -> usize
+    requires { ⌜ x .at + x .len ≤ length (now listing) ⌝ }
+    ensures { λ r. ⌜ r ≡ pushed (bytesOf (now (listing .entry)) x) ⌝ }
+{
+    let count = x.len / 2;
+    if count % 2 == 1 {
+        return count;
+    }
+    if are_digits(listing, x.at, x.len) {
+        count / 2
+    } else {
+        count
+    }
+}

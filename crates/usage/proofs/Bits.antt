@@ -1,0 +1,132 @@
+-- The taken set's bits: a shift tests one, `|` sets one, the trailing zeros of the complement are the taken positions before the first free one.
+use Prim.Native.Nat.{ℕ, zero, suc, _+_, _-_, _*_, _/_, _%_, _^_, _<_, max}
+use native.Mathlib.Nat.{pow-suc, one-mul, mod-eq-of-lt, eq-zero-or-pos}
+use native.Mathlib.Omega.{arith}
+use mathlib.Core.Bool.{Bool, true, false}
+use mathlib.Core.Logic.{_⊎_, inl, inr}
+use mathlib.Core.Path.{_≡_, refl, sym, ap, ap₂, _∙_}
+use borrow.Author.Tests.{eq-eqb, ne-eqb, eqb-true, eqb-false}
+use lib.Bits.{bitOr, or-step, or-zero-r}
+use lib.Count.{ones, ones-step, ones-ones, trailingZeros}
+use lib.Dec.{eqb}
+use lib.Pow.{pow-lt, shr-shr}
+use Rattle.usage.specs.Taken.{bitAt, withBit, freeIn, firstFree, runIn, isRun}
+
+-- by cases on the lowest bit
+pub parity : (x : ℕ) → (x % 2 ≡ 0) ⊎ (x % 2 ≡ 1)
+parity x = go (eq-zero-or-pos (x % 2))
+  where
+    go : (x % 2 ≡ 0) ⊎ (0 < x % 2) → (x % 2 ≡ 0) ⊎ (x % 2 ≡ 1)
+    go (inl e) = inl e
+    go (inr p) = inr (omega arith)
+
+-- `x >> k`, its lowest bit
+pub shifted : (x k : ℕ) → x / 2 ^ k % 2 ≡ bitAt x k
+unfolding bitAt
+shifted x zero = let e : x / 2 ^ 0 ≡ x = omega arith in rw e
+shifted x (suc k) = let e : x / 2 ^ suc k ≡ x / 2 / 2 ^ k = sym (shr-shr x 1 k ∙ ap (λ n. x / 2 ^ n) (omega arith)) in rw e (shifted (x / 2) k)
+
+-- `1 << k`
+shl-one : (k : ℕ) → k < 32 → 1 * 2 ^ k % 2 ^ 32 ≡ 2 ^ k
+shl-one k h = ap (λ (n : ℕ). n % 2 ^ 32) (one-mul (2 ^ k)) ∙ mod-eq-of-lt (pow-lt h)
+
+or-bit : (x k : ℕ) → bitOr x (2 ^ k) ≡ withBit x k
+unfolding withBit
+or-bit x zero = or-step x 1 ∙ rw (or-zero-r (x / 2)) (go (parity x))
+  where
+    go : (x % 2 ≡ 0) ⊎ (x % 2 ≡ 1) → x / 2 * 2 + max (x % 2) 1 ≡ x / 2 * 2 + 1
+    go (inl e) = rw e
+    go (inr e) = rw e
+or-bit x (suc k) =
+    let half : 2 ^ suc k / 2 ≡ 2 ^ k = omega (arith, pow-suc 2 k) in
+    let even : 2 ^ suc k % 2 ≡ 0 = omega (arith, pow-suc 2 k) in
+    or-step x (2 ^ suc k) ∙ rw (half, even, or-bit (x / 2) k) (go (parity x))
+  where
+    go : (x % 2 ≡ 0) ⊎ (x % 2 ≡ 1) → withBit (x / 2) k * 2 + max (x % 2) 0 ≡ withBit (x / 2) k * 2 + x % 2
+    go (inl e) = rw e
+    go (inr e) = rw e
+
+-- `x | (1 << k)`
+pub bit-set : (x k : ℕ) → k < 32 → bitOr x (1 * 2 ^ k % 2 ^ 32) ≡ withBit x k
+bit-set x k h = ap (bitOr x) (shl-one k h) ∙ or-bit x k
+
+-- a set of n positions with one of them more
+pub bit-within : (n x k : ℕ) → k < n → x < 2 ^ n → withBit x k < 2 ^ n
+unfolding withBit
+bit-within zero x k h b = absurd (omega arith)
+bit-within (suc n) x zero h b = omega (arith, pow-suc 2 n)
+bit-within (suc n) x (suc k) h b = omega (arith, pow-suc 2 n, bit-within n (x / 2) k (omega arith) (omega (arith, pow-suc 2 n)))
+
+-- the complement's lowest bit and its rest
+module _ (k x : ℕ) (h : x < 2 ^ suc k) where
+  not-odd : x % 2 ≡ 1 → trailingZeros (suc k) ((2 ^ suc k - 1) - x) ≡ suc (trailingZeros k ((2 ^ k - 1) - x / 2))
+  unfolding trailingZeros
+  not-odd odd =
+      let low : ((2 ^ suc k - 1) - x) % 2 ≡ 0 = omega (arith, pow-suc 2 k) in
+      let rest : ((2 ^ suc k - 1) - x) / 2 ≡ (2 ^ k - 1) - x / 2 = omega (arith, pow-suc 2 k) in
+      rw (low, rest)
+
+  not-even : x % 2 ≡ 0 → trailingZeros (suc k) ((2 ^ suc k - 1) - x) ≡ 0
+  unfolding trailingZeros
+  not-even even = let low : ((2 ^ suc k - 1) - x) % 2 ≡ 1 = omega (arith, pow-suc 2 k) in rw low
+
+-- the definitions by the lowest bit
+pub free-even : (w x : ℕ) → x % 2 ≡ 0 → freeIn (suc w) x ≡ 0
+unfolding freeIn
+free-even w x e = rw (e, freeIn)
+
+pub free-odd : (w x : ℕ) → x % 2 ≡ 1 → freeIn (suc w) x ≡ suc (freeIn w (x / 2))
+unfolding freeIn
+free-odd w x e = rw (e, freeIn)
+
+pub run-even : (w x : ℕ) → x % 2 ≡ 0 → runIn (suc w) x ≡ eqb x 0
+unfolding runIn
+run-even w x e = rw (e, runIn)
+
+pub run-odd : (w x : ℕ) → x % 2 ≡ 1 → runIn (suc w) x ≡ runIn w (x / 2)
+unfolding runIn
+run-odd w x e = rw (e, runIn)
+
+trailing-free : (w x : ℕ) → x < 2 ^ w → trailingZeros w ((2 ^ w - 1) - x) ≡ freeIn w x
+unfolding trailingZeros freeIn
+trailing-free zero x h = refl
+trailing-free (suc w) x h = go (parity x) (trailing-free w (x / 2) (omega (arith, pow-suc 2 w)))
+  where
+    go : (x % 2 ≡ 0) ⊎ (x % 2 ≡ 1) → trailingZeros w ((2 ^ w - 1) - x / 2) ≡ freeIn w (x / 2) → trailingZeros (suc w) ((2 ^ suc w - 1) - x) ≡ freeIn (suc w) x
+    go (inl e) ih = not-even w x h e ∙ sym (free-even w x e)
+    go (inr e) ih = not-odd w x h e ∙ ap suc ih ∙ sym (free-odd w x e)
+
+-- `trailing_zeros(!x)`
+pub first-free : (x : ℕ) → x < 2 ^ 32 → trailingZeros 32 ((2 ^ 32 - 1) - x) ≡ firstFree x
+unfolding firstFree
+first-free x h = trailing-free 32 x h
+
+ones-zero : (k x : ℕ) → x < 2 ^ k → ones x ≡ 0 → x ≡ 0
+ones-zero zero x h e = omega arith
+ones-zero (suc k) x h e =
+    let half : x / 2 ≡ 0 = ones-zero k (x / 2) (omega (arith, pow-suc 2 k)) (omega (arith, ones-step x)) in
+    omega (arith, ones-step x)
+
+-- two equations that hold together have equal tests
+same-test : (a b c d : ℕ) → (a ≡ b → c ≡ d) → (c ≡ d → a ≡ b) → eqb a b ≡ eqb c d
+same-test a b c d f g = go (eqb a b) refl
+  where
+    go : (t : Bool) → eqb a b ≡ t → t ≡ eqb c d
+    go true e = sym (eq-eqb c d (f (eqb-true a b e)))
+    go false e = sym (ne-eqb c d (λ h. eqb-false a b e (g h)))
+
+run-counts : (w x : ℕ) → x < 2 ^ w → eqb (ones x) (trailingZeros w ((2 ^ w - 1) - x)) ≡ runIn w x
+unfolding trailingZeros runIn
+run-counts zero x h = let e : x ≡ 0 = omega arith in eq-eqb (ones x) 0 (ap ones e ∙ ones-ones 0)
+run-counts (suc w) x h = go (parity x) (run-counts w (x / 2) (omega (arith, pow-suc 2 w)))
+  where
+    go : (x % 2 ≡ 0) ⊎ (x % 2 ≡ 1) → eqb (ones (x / 2)) (trailingZeros w ((2 ^ w - 1) - x / 2)) ≡ runIn w (x / 2) → eqb (ones x) (trailingZeros (suc w) ((2 ^ suc w - 1) - x)) ≡ runIn (suc w) x
+    go (inl e) ih = ap (eqb (ones x)) (not-even w x h e) ∙ same-test (ones x) 0 x 0 (ones-zero (suc w) x h) (λ q. ap ones q ∙ ones-ones 0) ∙ sym (run-even w x e)
+    go (inr e) ih =
+        let one-more : ones x ≡ suc (ones (x / 2)) = omega (arith, ones-step x) in
+        ap₂ eqb one-more (not-odd w x h e) ∙ same-test (suc (ones (x / 2))) (suc (trailingZeros w ((2 ^ w - 1) - x / 2))) (ones (x / 2)) (trailingZeros w ((2 ^ w - 1) - x / 2)) (λ q. omega arith) (λ q. ap suc q) ∙ ih ∙ sym (run-odd w x e)
+
+-- `count_ones(x) == trailing_zeros(!x)`
+pub run-test : (x : ℕ) → x < 2 ^ 32 → eqb (ones x) (trailingZeros 32 ((2 ^ 32 - 1) - x)) ≡ isRun x
+unfolding isRun
+run-test x h = run-counts 32 x h

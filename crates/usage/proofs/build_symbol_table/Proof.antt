@@ -1,0 +1,107 @@
+use Prim.Native.Nat.{_-_, _≤_}
+use native.Mathlib.Omega.{arith}
+use mathlib.Core.Path.{sym, _∙_}
+use borrow.Author.Needs.{needs}
+use Rattle.names.proofs.Laws.{items-end, items-named, name-inside}
+use Rattle.usage.proofs.Build.{Building, build-start, build-done, build-twice, build-more}
+use Rattle.usage.proofs.build_symbol_table.Statement.{statement}
+use Rattle.usage.proofs.build_symbol_table.Tie as tie
+
+abbrev Inv-loop : tie.InvT-loop
+Inv-loop listing table first count path₀ k₀ path k = (k ≤ count) × Building listing table first count k path
+
+abbrev μ-loop : tie.MeasureT-loop
+μ-loop listing table first count path₀ k₀ path k = count - k
+
+no-items-requires : tie.Need-no-items-requires Inv-loop μ-loop
+no-items-requires c κs = search needs
+
+loop-holds : tie.Need-loop-holds Inv-loop μ-loop
+loop-holds c = (omega arith, build-start (c .before .before .before .args .listing .now) (c .before .before .before .args .table .now) (c .before .before .before .args .first) (c .before .before .before .args .count) (c .no-items .ensures))
+
+sub-row : tie.Need-sub-row Inv-loop μ-loop
+sub-row c = omega arith
+
+sub-row-2 : tie.Need-sub-row-2 Inv-loop μ-loop
+sub-row-2 c = omega arith
+
+cast-row : tie.Need-cast-row Inv-loop μ-loop
+cast-row c = omega arith
+
+add-row : tie.Need-add-row Inv-loop μ-loop
+add-row c = omega (arith, items-named (c .before .before .before .before .before .args .listing .now) (c .before .before .before .before .before .args .table .now) (c .before .before .before .before .before .pre .0) (c .before .before .before .before .before .args .count - 1 - c .before .loop .k) (omega arith) .holds .room)
+
+item-at-requires : tie.Need-item-at-requires Inv-loop μ-loop
+item-at-requires c κs = items-named (c .before .before .before .before .before .args .listing .now) (c .before .before .before .before .before .args .table .now) (c .before .before .before .before .before .pre .0) (c .before .before .before .before .before .args .count - 1 - c .before .loop .k) (omega arith) .holds
+
+find-place-requires : tie.Need-find-place-requires Inv-loop μ-loop
+find-place-requires c κs =
+    let a = c .before .before .before .before .before .before .args in
+    (name-inside (a .listing .now) (a .table .now) (c .item-at .result) (items-named (c .before .before .before .before .before .before .args .listing .now) (c .before .before .before .before .before .before .args .table .now) (c .before .before .before .before .before .before .pre .0) (c .before .before .before .before .before .before .args .count - 1 - c .before .before .loop .k) (omega arith)) (c .item-at .ensures), c .before .before .loop .inv .1 .sound)
+
+enum-told : tie.Need-enum-told Inv-loop μ-loop
+enum-told c = search needs
+
+refuse-requires : tie.Need-refuse-requires Inv-loop μ-loop
+refuse-requires c κs = search needs
+
+returns : tie.Need-returns Inv-loop μ-loop
+returns c =
+    let it = c .before .before .before .before .item-at in
+    build-twice (c .before .before .before .before .before .before .loop .inv .1) (c .before .before .before .before .before .loop-test .taken) (it .result) (it .ensures) (sym (c .before .enum-told .given .1) ∙ c .before .before .before .find-place .ensures) (c .refuse .ensures)
+
+enum-told-2 : tie.Need-enum-told-2 Inv-loop μ-loop
+enum-told-2 c = search needs
+
+cast-add-item : tie.Need-cast-add-item Inv-loop μ-loop
+cast-add-item c = let st = c .before .before .before .before .before .before .before .before .before .pre .0 in omega (arith, items-end (c .before .before .before .before .before .before .before .before .before .args .listing .now) (c .before .before .before .before .before .before .before .before .before .args .table .now) (st .spells), st .within, st .rows .few)
+
+add-item-requires : tie.Need-add-item-requires Inv-loop μ-loop
+add-item-requires c κs = omega (arith, c .before .before .before .before .before .loop .inv .1 .entries, c .before .before .before .before .loop-test .taken, c .before .before .before .before .before .before .before .before .before .pre .1)
+
+add-k : tie.Need-add-k Inv-loop μ-loop
+add-k c = omega arith
+
+loop-less : tie.Need-loop-less Inv-loop μ-loop
+loop-less c = omega arith
+
+loop-again : tie.Need-loop-again Inv-loop μ-loop
+loop-again c =
+    let it = c .before .before .before .before .item-at in
+    (omega arith, rw (c .add-item .ensures) (build-more (c .before .before .before .before .before .before .loop .inv .1) (c .before .before .before .before .before .loop-test .taken) (it .result) (it .ensures) (sym (c .before .enum-told2 .given .1) ∙ c .before .before .before .find-place .ensures) (c .before .before .before .before .before .before .before .before .before .before .pre .1) (items-named (c .before .before .before .before .before .before .before .before .before .before .args .listing .now) (c .before .before .before .before .before .before .before .before .before .before .args .table .now) (c .before .before .before .before .before .before .before .before .before .before .pre .0) (c .before .before .before .before .before .before .before .before .before .before .args .count - 1 - c .before .before .before .before .before .before .loop .k) (omega arith))))
+
+add-pass : tie.Need-add-pass Inv-loop μ-loop
+add-pass c = let st = c .before .before .before .before .before .pre .0 in omega (arith, items-end (c .before .before .before .before .before .args .listing .now) (c .before .before .before .before .before .args .table .now) (st .spells), st .within, st .rows .few)
+
+pass-requires : tie.Need-pass-requires Inv-loop μ-loop
+pass-requires c κs = search needs
+
+returns-2 : tie.Need-returns-2 Inv-loop μ-loop
+returns-2 c = build-done (c .before .before .loop .inv .1) (c .before .loop-test .left) (c .pass .ensures)
+
+pub build-symbol-table-spec : {M : Type 1} → statement M
+build-symbol-table-spec =
+    tie.close
+    (tie.spec
+    Inv-loop
+    μ-loop
+    no-items-requires
+    loop-holds
+    sub-row
+    sub-row-2
+    cast-row
+    add-row
+    item-at-requires
+    find-place-requires
+    enum-told
+    refuse-requires
+    returns
+    enum-told-2
+    cast-add-item
+    add-item-requires
+    add-k
+    loop-less
+    loop-again
+    add-pass
+    pass-requires
+    returns-2)

@@ -1,0 +1,104 @@
+use Prim.Native.Nat.{_-_, _≤_, _<_}
+use native.Mathlib.Omega.{arith}
+use mathlib.Core.Path.{_≡_, refl, sym, _∙_}
+use borrow.Author.Needs.{needs}
+use borrow.Author.Tests.{not-true, not-false}
+use Rattle.usage.specs.Taken.{firstFree}
+use Rattle.usage.proofs.Transfer.{run-below, no-run, no-fellow, Handing, hand-start, hand-more, hand-done}
+use Rattle.usage.proofs.Walks.{walk-fault, walk-pass}
+use Rattle.usage.proofs.transfer_prefix_consumption.Statement.{statement}
+use Rattle.usage.proofs.transfer_prefix_consumption.Tie as tie
+
+abbrev Inv-loop : tie.InvT-loop
+Inv-loop listing table loc to from taken run out₀ k₀ out k = (k ≤ run) × (run ≡ firstFree (from .taken)) × Handing listing table from to k out
+
+abbrev μ-loop : tie.MeasureT-loop
+μ-loop listing table loc to from taken run out₀ k₀ out k = run - k
+
+is-top-run-requires : tie.Need-is-top-run-requires Inv-loop μ-loop
+is-top-run-requires c κs = search needs
+
+refuse-requires : tie.Need-refuse-requires Inv-loop μ-loop
+refuse-requires c κs = search needs
+
+returns : tie.Need-returns Inv-loop μ-loop
+returns c = walk-fault (c .refuse .ensures) (no-run (c .before .before .before .before .before .pre .0) (c .before .before .before .before .before .pre .1) _ (sym (c .before .before .is-top-run .ensures) ∙ not-true _ (c .before .if1 .taken)))
+
+first-free-requires : tie.Need-first-free-requires Inv-loop μ-loop
+first-free-requires c κs = search needs
+
+loop-holds : tie.Need-loop-holds Inv-loop μ-loop
+loop-holds c = (omega arith, c .first-free .ensures, hand-start (c .before .before .before .before .before .pre .1))
+
+-- a position of the run is one of the path's
+position : (c : tie.In-loop Inv-loop μ-loop) → c .before .loop .k < c .before .before .before .before .before .before .before .args .t4 .count
+position c = run-below (c .before .before .before .before .before .before .before .pre .0) (omega (arith, c .before .loop .inv .1, c .loop-test .taken))
+
+below : (c : tie.In-loop Inv-loop μ-loop) → c .before .loop .k < 32
+below c = omega (arith, position c, c .before .before .before .before .before .before .before .pre .0 .few)
+
+same-item-requires : tie.Need-same-item-requires Inv-loop μ-loop
+same-item-requires c κs = (c .before .before .before .before .before .before .before .pre .0, c .before .before .before .before .before .before .before .pre .1, position c)
+
+refuse-requires-2 : tie.Need-refuse-requires-2 Inv-loop μ-loop
+refuse-requires-2 c κs = search needs
+
+returns-2 : tie.Need-returns-2 Inv-loop μ-loop
+returns-2 c = walk-fault (c .refuse2 .ensures) (no-fellow (c .before .before .before .before .before .before .before .before .before .before .pre .0) (c .before .before .before .before .before .before .before .before .before .before .pre .1) _ (omega (arith, c .before .before .before .before .loop .inv .1, c .before .before .before .loop-test .taken)) (sym (c .before .before .same-item .ensures) ∙ not-true _ (c .before .if2 .taken)))
+
+cast-p : tie.Need-cast-p Inv-loop μ-loop
+cast-p c = omega arith
+
+mul-p : tie.Need-mul-p Inv-loop μ-loop
+mul-p c = omega (arith, below (c .before .before))
+
+element-copy-out-p : tie.Need-element-copy-out-p Inv-loop μ-loop
+element-copy-out-p c = below (c .before .before)
+
+mark-requires : tie.Need-mark-requires Inv-loop μ-loop
+mark-requires c κs = below (c .before .before .before)
+
+add-k : tie.Need-add-k Inv-loop μ-loop
+add-k c = omega arith
+
+loop-less : tie.Need-loop-less Inv-loop μ-loop
+loop-less c = omega arith
+
+loop-again : tie.Need-loop-again Inv-loop μ-loop
+loop-again c =
+    let b = c .before .before .before .before .before .before .before .before .before .before .before in
+    let l = c .before .before .before .before .before .loop in
+    (omega arith, l .inv .1, rw (c .mark .ensures) (hand-more (b .pre .0) (b .pre .1) (l .inv .2) (omega (arith, l .inv .1, c .before .before .before .before .loop-test .taken)) (sym (c .before .before .before .same-item .ensures) ∙ not-false _ (c .before .before .if2 .left))))
+
+pass-requires : tie.Need-pass-requires Inv-loop μ-loop
+pass-requires c κs = search needs
+
+returns-3 : tie.Need-returns-3 Inv-loop μ-loop
+returns-3 c =
+    let b = c .before .before .before .before .before .before .before .before in
+    let l = c .before .before .loop in
+    walk-pass (c .pass .ensures) (hand-done (b .pre .0) (b .pre .1) _ (l .inv .2) (omega (arith, l .inv .0, l .inv .1, c .before .loop-test .left)) (sym (c .before .before .before .before .before .is-top-run .ensures) ∙ not-false _ (c .before .before .before .before .if1 .left))) refl (l .inv .2 .sound) (l .inv .2 .items)
+
+pub transfer-prefix-consumption-spec : {M : Type 1} → statement M
+transfer-prefix-consumption-spec =
+    tie.close
+    (tie.spec
+    Inv-loop
+    μ-loop
+    is-top-run-requires
+    refuse-requires
+    returns
+    first-free-requires
+    loop-holds
+    same-item-requires
+    refuse-requires-2
+    returns-2
+    cast-p
+    mul-p
+    element-copy-out-p
+    mark-requires
+    add-k
+    loop-less
+    loop-again
+    pass-requires
+    returns-3)

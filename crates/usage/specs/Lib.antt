@@ -1,0 +1,4 @@
+pub mod Taken
+pub mod Path
+pub mod Tables
+pub mod Walk

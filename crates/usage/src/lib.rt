@@ -1,0 +1,380 @@
+// How the items of a path are used: built, taken, handed on, left over.
+ghost use mathlib.Core.Path.{_≡_};
+ghost use Prim.Native.Nat.{ℕ, _+_, _<_, _≤_, suc};
+ghost use mathlib.Core.List.{List};
+ghost use mathlib.Core.Bool.{false};
+ghost use Rattle.ast.specs.Tree.{fault};
+ghost use Rattle.text.specs.Text.{part};
+ghost use Rattle.nodes.specs.declared.Answer.{Answer};
+ghost use Rattle.rules.specs.Table.{params};
+ghost use Rattle.rules.specs.Usage.{take as takeOf};
+ghost use Rattle.names.specs.Items.{Inside, foundIn};
+ghost use Rattle.usage.specs.Taken.{isTaken, withBit, firstFree, isRun};
+ghost use Rattle.rules.specs.Usage.{usage, usageFactor, usageInner, usageFactors};
+ghost use Rattle.rows.specs.Rows.{lineIn};
+ghost use Rattle.reader.specs.Spells.{SpellsExpression, SpellsFactor, SpellsFactors};
+ghost use Rattle.nodes.specs.Stands.{ExpressionAt, FactorAt, FactorsAt};
+ghost use Rattle.usage.specs.Path.{tableOf, WellFormed, marked, Walked};
+ghost use Rattle.ast.specs.Tree.{StackParam, Declaration};
+ghost use Rattle.reader.specs.Reading.{item};
+ghost use Rattle.reader.specs.Spells.{SpellsItems};
+ghost use Rattle.rules.specs.Unused.{unused};
+ghost use Rattle.rules.specs.Transfer.{transfer};
+ghost use Rattle.names.specs.Items.{ItemsAt};
+ghost use lib.ListN.{replicate};
+ghost use Rattle.usage.specs.Tables.{noPlace, added, Built, agreeAt};
+ghost use Rattle.usage.specs.Walk.{partsOf, SpellsTwo, TwoAt, usageTwo, Walks};
+use ast::Checked;
+use ast::CompileError;
+use ast::ErrorKind;
+use ast::Location;
+use limits::skip_factor;
+use listing::ExpressionLine;
+use listing::FactorLine;
+use names::Found;
+use names::item_at;
+use names::same_name;
+use nodes::Answer;
+use nodes::expression_at;
+use nodes::factor_at;
+use text::Place;
+
+// Where an item's name stands, as the number of its row, and the listing line that took the item (0 where none).
+pub struct NamePlace {
+    pub row: u32,
+    pub line: u32,
+}
+
+// A path's items, position 0 being the top; the taken positions are the ones of `taken`.
+pub struct Path {
+    pub places: [NamePlace; 32],
+    pub count: u32,
+    pub taken: u32,
+}
+
+// What a walk that takes items answers, and the path after it.
+pub struct Used {
+    pub path: Path,
+    pub answer: Answer,
+}
+
+// What an expression's line says of the names below it: a name itself, or what stands on the rows after it.
+pub enum Parts {
+    Named(Location, Place),
+    Nothing,
+    One,
+    Two,
+    Signatures,
+}
+
+// Whether position k is taken.
+pub fn is_taken(taken: u32, k: u32) -> bool
+    requires { ⌜ k < 32 ⌝ }
+    ensures { λ r. ⌜ r ≡ isTaken taken k ⌝ }
+{
+    (taken >> k) % 2 == 1
+}
+
+// The taken positions with position k.
+pub fn with_bit(taken: u32, k: u32) -> u32
+    requires { ⌜ k < 32 ⌝ }
+    ensures { λ r. ⌜ r ≡ withBit taken k ⌝ }
+{
+    taken | (1 << k)
+}
+
+// The smallest position that is not taken.
+pub fn first_free(taken: u32) -> u32
+    ensures { λ r. ⌜ r ≡ firstFree taken ⌝ }
+{
+    u32::trailing_zeros(!taken)
+}
+
+// Whether the taken positions run from position 0.
+pub fn is_top_run(taken: u32) -> bool
+    ensures { λ r. ⌜ r ≡ isRun taken ⌝ }
+{
+    u32::count_ones(taken) == u32::trailing_zeros(!taken)
+}
+
+// Position k taken by a line.
+pub fn mark(path: Path, k: u32, line: u32) -> Path
+    requires { ⌜ k < 32 ⌝ }
+    ensures { λ r. ⌜ r ≡ marked path k line ⌝ }
+{
+    let mut out = path;
+    let at = k as usize;
+    let p = out.places[at];
+    out.places[at] = NamePlace { row: p.row, line };
+    out.taken = with_bit(path.taken, k);
+    out
+}
+
+fn pass(path: Path, next: usize) -> Used
+    ensures { λ r. ⌜ r ≡ record { path = path; answer = Answer.Pass next } ⌝ }
+{
+    Used {
+        path,
+        answer: Answer::Pass(next),
+    }
+}
+
+fn refuse(path: Path, kind: ErrorKind, loc: Location) -> Used
+    ensures { λ r. ⌜ r ≡ record { path = path; answer = Answer.Fault (fault kind loc) } ⌝ }
+{
+    Used {
+        path,
+        answer: Answer::Fault(CompileError { loc, kind }),
+    }
+}
+
+// The position of the name x among a path's items.
+pub fn find_place(listing: &[u8], table: &[u32], x: Place, path: Path) -> Found
+    requires { ⌜ Inside (now listing) x × WellFormed (now listing) (now table) path ⌝ }
+    ensures { λ r. ⌜ r ≡ foundIn (params (tableOf (now (listing .entry)) (now (table .entry)) path)) (part (now (listing .entry)) x) ⌝ }
+{
+    let count = path.count;
+    let mut k: u32 = 0;
+    while k < count {
+        let p = path.places[k as usize];
+        let it = item_at(table, p.row as usize);
+        let name = it.name;
+        if same_name(listing, x, name) {
+            return Found::At(k);
+        }
+        k += 1;
+    }
+    Found::Missing
+}
+
+// The variable x of row i: unknown 12, taken before 13, a smaller position not yet taken 15; else the row's listing line takes it.
+pub fn take(listing: &[u8], table: &[u32], i: usize, loc: Location, x: Place, path: Path) -> Used
+    requires { ⌜ Inside (now listing) x × WellFormed (now listing) (now table) path × (i + 1 < 4294967296) ⌝ }
+    ensures { λ r. ⌜ Walked (now (listing .entry)) (now (table .entry)) path (takeOf false loc (suc i) (part (now (listing .entry)) x) (tableOf (now (listing .entry)) (now (table .entry)) path)) (suc i) r ⌝ }
+{
+    let Found::At(k) = find_place(listing, table, x, path) else {
+        return refuse(path, ErrorKind::UndefinedVariable, loc);
+    };
+    let taken = path.taken;
+    if is_taken(taken, k) {
+        return refuse(path, ErrorKind::VariableConsumed, loc);
+    }
+    if first_free(taken) < k {
+        return refuse(path, ErrorKind::InvalidConsumptionOrder, loc);
+    }
+    pass(mark(path, k, (i + 1) as u32), i + 1)
+}
+
+fn parts_of(line: ExpressionLine) -> Parts
+    ensures { λ r. ⌜ r ≡ partsOf line ⌝ }
+{
+    match line {
+        ExpressionLine::Variable(loc, x) => Parts::Named(loc, x),
+        ExpressionLine::NumberLiteral(_, _) => Parts::Nothing,
+        ExpressionLine::BooleanLiteral(_, _) => Parts::Nothing,
+        ExpressionLine::StringLiteral(_, _, _) => Parts::Nothing,
+        ExpressionLine::LogicalExpression(_, _) => Parts::Two,
+        ExpressionLine::CompareExpression(_, _) => Parts::Two,
+        ExpressionLine::BinaryMathExpression(_, _) => Parts::Two,
+        ExpressionLine::UnaryMathExpression(_, _) => Parts::One,
+        ExpressionLine::UnaryCryptoExpression(_, _) => Parts::One,
+        ExpressionLine::ByteExpression(_) => Parts::One,
+        ExpressionLine::CheckSigExpression(_) => Parts::Signatures,
+    }
+}
+
+// The names of an expression, in the order in which they stand.
+pub fn check_variable(listing: &[u8], table: &[u32], i: usize, path: Path) -> Used
+    requires { ⌜ ExpressionAt (now listing) (now table) i × WellFormed (now listing) (now table) path ⌝ }
+    ensures { λ r. ⌜ Walks (SpellsExpression (lineIn (now (table .entry))) (now (listing .entry))) usage (now (listing .entry)) (now (table .entry)) i path r ⌝ }
+{
+    let line = expression_at(table, i);
+    let parts = parts_of(line);
+    let first = i + 1;
+    match parts {
+        Parts::Named(loc, x) => take(listing, table, i, loc, x, path),
+        Parts::Nothing => pass(path, first),
+        Parts::One => check_variable(listing, table, first, path),
+        Parts::Two => check_two(listing, table, first, path),
+        Parts::Signatures => check_factor(listing, table, first, path),
+    }
+}
+
+// Left before right, signature before key.
+fn check_two(listing: &[u8], table: &[u32], i: usize, path: Path) -> Used
+    requires { ⌜ TwoAt (now listing) (now table) i × WellFormed (now listing) (now table) path ⌝ }
+    ensures { λ r. ⌜ Walks (SpellsTwo (lineIn (now (table .entry))) (now (listing .entry))) usageTwo (now (listing .entry)) (now (table .entry)) i path r ⌝ }
+{
+    let left = check_variable(listing, table, i, path);
+    let answer = left.answer;
+    match answer {
+        Answer::Pass(next) => check_variable(listing, table, next, left.path),
+        Answer::Fault(_) => left,
+    }
+}
+
+fn check_factor(listing: &[u8], table: &[u32], i: usize, path: Path) -> Used
+    requires { ⌜ FactorAt (now listing) (now table) i × WellFormed (now listing) (now table) path ⌝ }
+    ensures { λ r. ⌜ Walks (SpellsFactor (lineIn (now (table .entry))) (now (listing .entry))) usageFactor (now (listing .entry)) (now (table .entry)) i path r ⌝ }
+{
+    let line = factor_at(table, i);
+    let first = i + 1;
+    match line {
+        FactorLine::SingleSigFactor(_) => check_two(listing, table, first, path),
+        FactorLine::MultiSigFactor(_, _, n) => check_factors(listing, table, first, n, path),
+    }
+}
+
+// A factor of a multi-signature: one that is a multi-signature itself is skipped.
+fn check_inner(listing: &[u8], table: &[u32], i: usize, path: Path) -> Used
+    requires { ⌜ FactorAt (now listing) (now table) i × WellFormed (now listing) (now table) path ⌝ }
+    ensures { λ r. ⌜ Walks (SpellsFactor (lineIn (now (table .entry))) (now (listing .entry))) usageInner (now (listing .entry)) (now (table .entry)) i path r ⌝ }
+{
+    let line = factor_at(table, i);
+    match line {
+        FactorLine::SingleSigFactor(_) => check_two(listing, table, i + 1, path),
+        FactorLine::MultiSigFactor(_, _, _) => pass(path, skip_factor(table, i)),
+    }
+}
+
+// The n factors of a multi-signature.
+fn check_factors(listing: &[u8], table: &[u32], i: usize, n: u32, path: Path) -> Used
+    requires { ⌜ FactorsAt (now listing) (now table) n i × WellFormed (now listing) (now table) path ⌝ }
+    ensures { λ r. ⌜ Walks (SpellsFactors (lineIn (now (table .entry))) (now (listing .entry)) n) usageFactors (now (listing .entry)) (now (table .entry)) i path r ⌝ }
+{
+    let mut out = path;
+    let mut next = i;
+    let mut left = n;
+    while 0 < left {
+        let one = check_inner(listing, table, next, out);
+        let answer = one.answer;
+        match answer {
+            Answer::Pass(m) => {
+                next = m;
+            }
+            Answer::Fault(_) => {
+                return one;
+            }
+        }
+        out = one.path;
+        left -= 1;
+    }
+    pass(out, next)
+}
+
+// A path with no items.
+fn no_items() -> Path
+    ensures { λ r. ⌜ r ≡ record { places = replicate 32 noPlace; count = 0; taken = 0 } ⌝ }
+{
+    Path {
+        places: [NamePlace { row: 0, line: 0 }; 32],
+        count: 0,
+        taken: 0,
+    }
+}
+
+// One more item, below the others.
+fn add_item(path: Path, row: u32) -> Path
+    requires { ⌜ path .count < 32 ⌝ }
+    ensures { λ r. ⌜ r ≡ added path row ⌝ }
+{
+    let mut out = path;
+    let at = path.count as usize;
+    out.places[at] = NamePlace { row, line: 0 };
+    out.count = path.count + 1;
+    out
+}
+
+// The path of the `count` items whose rows begin at `first`, from the last declared to the first: a name already met is 11 at the one met now.
+pub fn build_symbol_table(listing: &[u8], table: &[u32], first: usize, count: u32) -> Used
+    requires { ⌜ ItemsAt (now listing) (now table) count first × (count ≤ 32) ⌝ }
+    ensures { λ r. ⌜ ((d : Declaration) → SpellsItems (lineIn (now (table .entry))) StackParam (item (now (listing .entry))) count first d (first + count) → Built (now (listing .entry)) (now (table .entry)) d (first + count) r) ⌝ }
+{
+    let mut path = no_items();
+    let mut k: u32 = 0;
+    while k < count {
+        let row = first + (count - 1 - k) as usize;
+        let it = item_at(table, row);
+        let met = find_place(listing, table, it.name, path);
+        match met {
+            Found::At(_) => {
+                return refuse(path, ErrorKind::DuplicateVariable, it.loc);
+            }
+            Found::Missing => {
+                path = add_item(path, row as u32);
+            }
+        }
+        k += 1;
+    }
+    pass(path, first + count as usize)
+}
+
+// An item that no line took is 14 at it, first declared first: from the bottom up.
+pub fn check_unused_variable(table: &[u32], path: Path) -> Checked
+    requires { ⌜ ((s : List ℕ) × WellFormed s (now table) path) ⌝ }
+    ensures { λ r. ⌜ ((s : List ℕ) → WellFormed s (now (table .entry)) path → r ≡ unused (tableOf s (now (table .entry)) path)) ⌝ }
+{
+    let taken = path.taken;
+    let mut k = path.count;
+    while 0 < k {
+        k -= 1;
+        if !is_taken(taken, k) {
+            let p = path.places[k as usize];
+            let it = item_at(table, p.row as usize);
+            let loc = it.loc;
+            return Checked::Err(CompileError {
+                loc,
+                kind: ErrorKind::UnusedVariable,
+            });
+        }
+    }
+    Checked::Ok
+}
+
+// Whether both paths have an item at position k, and of the same name.
+fn same_item(listing: &[u8], table: &[u32], from: Path, to: Path, k: u32) -> bool
+    requires { ⌜ WellFormed (now listing) (now table) from × WellFormed (now listing) (now table) to × (k < from .count) ⌝ }
+    ensures { λ r. ⌜ r ≡ agreeAt (tableOf (now (listing .entry)) (now (table .entry)) from) (tableOf (now (listing .entry)) (now (table .entry)) to) k ⌝ }
+{
+    if to.count <= k {
+        return false;
+    }
+    let at = k as usize;
+    let p = from.places[at];
+    let q = to.places[at];
+    let a = item_at(table, p.row as usize);
+    let b = item_at(table, q.row as usize);
+    let x = a.name;
+    let y = b.name;
+    same_name(listing, x, y)
+}
+
+// What is taken in `from` is taken in `to` by the same lines; 20 at `loc` unless that is a run from position 0 of items that `to` has at the same
+// positions. The row of a pass is 0.
+pub fn transfer_prefix_consumption(
+    listing: &[u8],
+    table: &[u32],
+    loc: Location,
+    from: Path,
+    to: Path,
+) -> Used
+    requires { ⌜ WellFormed (now listing) (now table) from × WellFormed (now listing) (now table) to ⌝ }
+    ensures { λ r. ⌜ Walked (now (listing .entry)) (now (table .entry)) to (transfer loc (tableOf (now (listing .entry)) (now (table .entry)) from) (tableOf (now (listing .entry)) (now (table .entry)) to)) 0 r ⌝ }
+{
+    let taken = from.taken;
+    if !is_top_run(taken) {
+        return refuse(to, ErrorKind::DeclarationPathMismatch, loc);
+    }
+    let run = first_free(taken);
+    let mut out = to;
+    let mut k: u32 = 0;
+    while k < run {
+        if !same_item(listing, table, from, to, k) {
+            return refuse(to, ErrorKind::DeclarationPathMismatch, loc);
+        }
+        let p = from.places[k as usize];
+        out = mark(out, k, p.line);
+        k += 1;
+    }
+    pass(out, 0)
+}
