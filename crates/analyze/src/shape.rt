@@ -13,6 +13,7 @@ use ast::Checked;
 use ast::CompileError;
 use ast::ErrorKind;
 use ast::Location;
+use ast::nowhere;
 use flow::flow::check_flow;
 use flow::necessity::count_paths;
 use names::item_at;
@@ -33,18 +34,6 @@ pub fn first_item(table: &[u32], d: Declared) -> Location
     }
     let it = item_at(table, firsts[0] as usize);
     it.loc
-}
-
-// The place of what stands nowhere.
-fn nowhere() -> Location
-    ensures { λ r. ⌜ r ≡ Rattle.ast.specs.Tree.nowhere ⌝ }
-{
-    Location {
-        start: 0,
-        end: 0,
-        line: 1,
-        column: 0,
-    }
 }
 
 // Flow, then as many declarations as paths.

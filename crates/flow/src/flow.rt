@@ -2,7 +2,7 @@
 ghost use mathlib.Core.Path.{_≡_};
 ghost use mathlib.Core.List.{List};
 ghost use Prim.Native.Nat.{ℕ};
-ghost use Rattle.ast.specs.Tree.{Statement, Block, nowhere};
+ghost use Rattle.ast.specs.Tree.{Statement, Block};
 ghost use Rattle.rows.specs.Rows.{lineIn};
 ghost use Rattle.reader.specs.Spells.{SpellsStatement, SpellsBlock};
 ghost use Rattle.rules.specs.Flow.{flowLast, flow};
@@ -12,25 +12,13 @@ use crate::goes_on;
 use crate::place_of;
 use crate::skip_statement;
 use ast::ErrorKind;
-use ast::Location;
+use ast::nowhere;
 use limits::skip_expression;
 use listing::StatementLine;
 use nodes::Answer;
 use nodes::block_at;
 use nodes::refuse;
 use nodes::statement_at;
-
-// The place of what stands nowhere.
-fn program_start() -> Location
-    ensures { λ r. ⌜ r ≡ nowhere ⌝ }
-{
-    Location {
-        start: 0,
-        end: 0,
-        line: 1,
-        column: 0,
-    }
-}
 
 // A block: first 19 at a statement after an if or a return, then its last statement; an empty block is 18.
 pub fn check_flow(table: &[u32], i: usize) -> Answer
@@ -39,7 +27,7 @@ pub fn check_flow(table: &[u32], i: usize) -> Answer
 {
     let n = block_at(table, i);
     if n == 0 {
-        return refuse(ErrorKind::NoReturn, program_start());
+        return refuse(ErrorKind::NoReturn, nowhere());
     }
     let mut at = i + 1;
     let mut left = n;

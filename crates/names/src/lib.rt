@@ -1,7 +1,8 @@
 // Names, and the items of a declaration as rows of a table.
 ghost use mathlib.Core.Path.{_≡_};
 ghost use Prim.Native.Nat.{_+_};
-ghost use Rattle.ast.specs.Tree.{StackParam, Declaration, fromTop, same};
+ghost use Rattle.ast.specs.Tree.{StackParam, Declaration, fromTop, same, unplaced};
+ghost use Rattle.ast.specs.declared.Type.the-variants.{Boolean};
 ghost use Rattle.text.specs.Text.{part};
 ghost use Rattle.rows.specs.Rows.{lineIn};
 ghost use Rattle.reader.specs.Reading.{item};
@@ -9,6 +10,7 @@ ghost use Rattle.reader.specs.Spells.{SpellsItems};
 ghost use Rattle.names.specs.Items.{ItemsAt, HoldsItem, Inside, lineOf, foundIn};
 use ast::Location;
 use ast::Type;
+use ast::unplaced;
 use listing::Line;
 use rows::row;
 use text::Place;
@@ -48,14 +50,11 @@ pub fn same_name(listing: &[u8], a: Place, b: Place) -> bool
 }
 
 // An item that no line holds.
-fn no_item() -> Item {
+fn no_item() -> Item
+    ensures { λ r. ⌜ r ≡ record { loc = unplaced; ty = Boolean; name = record { at = 0; len = 0 } } ⌝ }
+{
     Item {
-        loc: Location {
-            start: 0,
-            end: 0,
-            line: 0,
-            column: 0,
-        },
+        loc: unplaced(),
         ty: Type::Boolean,
         name: Place { at: 0, len: 0 },
     }

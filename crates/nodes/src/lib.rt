@@ -2,6 +2,7 @@
 ghost use mathlib.Core.Path.{_≡_};
 ghost use Rattle.listing.specs.declared.Line.{Line};
 ghost use Rattle.ast.specs.Tree.{fault};
+ghost use Rattle.ast.specs.declared.Target.{Target};
 ghost use Rattle.rows.specs.Rows.{lineIn};
 ghost use Rattle.nodes.specs.declared.Answer.{Answer};
 ghost use Rattle.nodes.specs.declared.Head.{Head};
@@ -10,6 +11,7 @@ use ast::CompileError;
 use ast::ErrorKind;
 use ast::Location;
 use ast::Target;
+use ast::unplaced;
 use listing::ExpressionLine;
 use listing::FactorLine;
 use listing::Line;
@@ -35,19 +37,13 @@ pub fn refuse(kind: ErrorKind, loc: Location) -> Answer
     Answer::Fault(CompileError { loc, kind })
 }
 
-fn no_head() -> Head {
+// What stands where there is no T line.
+fn no_head() -> Head
+    ensures { λ r. ⌜ r ≡ record { target = Target.Legacy; declarations = 0 } ⌝ }
+{
     Head {
         target: Target::Legacy,
         declarations: 0,
-    }
-}
-
-fn nowhere() -> Location {
-    Location {
-        start: 0,
-        end: 0,
-        line: 0,
-        column: 0,
     }
 }
 
@@ -59,12 +55,12 @@ pub fn expression_at(table: &[u32], i: usize) -> ExpressionLine
     let l = row(table, i);
     match l {
         Line::Expression(e) => e,
-        Line::Contract(_, _) => ExpressionLine::ByteExpression(nowhere()),
-        Line::Declaration(_) => ExpressionLine::ByteExpression(nowhere()),
-        Line::StackParam(_, _, _) => ExpressionLine::ByteExpression(nowhere()),
-        Line::Block(_) => ExpressionLine::ByteExpression(nowhere()),
-        Line::Statement(_) => ExpressionLine::ByteExpression(nowhere()),
-        Line::Factor(_) => ExpressionLine::ByteExpression(nowhere()),
+        Line::Contract(_, _) => ExpressionLine::ByteExpression(unplaced()),
+        Line::Declaration(_) => ExpressionLine::ByteExpression(unplaced()),
+        Line::StackParam(_, _, _) => ExpressionLine::ByteExpression(unplaced()),
+        Line::Block(_) => ExpressionLine::ByteExpression(unplaced()),
+        Line::Statement(_) => ExpressionLine::ByteExpression(unplaced()),
+        Line::Factor(_) => ExpressionLine::ByteExpression(unplaced()),
     }
 }
 
@@ -76,12 +72,12 @@ pub fn factor_at(table: &[u32], i: usize) -> FactorLine
     let l = row(table, i);
     match l {
         Line::Factor(f) => f,
-        Line::Contract(_, _) => FactorLine::SingleSigFactor(nowhere()),
-        Line::Declaration(_) => FactorLine::SingleSigFactor(nowhere()),
-        Line::StackParam(_, _, _) => FactorLine::SingleSigFactor(nowhere()),
-        Line::Block(_) => FactorLine::SingleSigFactor(nowhere()),
-        Line::Statement(_) => FactorLine::SingleSigFactor(nowhere()),
-        Line::Expression(_) => FactorLine::SingleSigFactor(nowhere()),
+        Line::Contract(_, _) => FactorLine::SingleSigFactor(unplaced()),
+        Line::Declaration(_) => FactorLine::SingleSigFactor(unplaced()),
+        Line::StackParam(_, _, _) => FactorLine::SingleSigFactor(unplaced()),
+        Line::Block(_) => FactorLine::SingleSigFactor(unplaced()),
+        Line::Statement(_) => FactorLine::SingleSigFactor(unplaced()),
+        Line::Expression(_) => FactorLine::SingleSigFactor(unplaced()),
     }
 }
 
@@ -93,12 +89,12 @@ pub fn statement_at(table: &[u32], i: usize) -> StatementLine
     let l = row(table, i);
     match l {
         Line::Statement(s) => s,
-        Line::Contract(_, _) => StatementLine::VerifyStatement(nowhere()),
-        Line::Declaration(_) => StatementLine::VerifyStatement(nowhere()),
-        Line::StackParam(_, _, _) => StatementLine::VerifyStatement(nowhere()),
-        Line::Block(_) => StatementLine::VerifyStatement(nowhere()),
-        Line::Expression(_) => StatementLine::VerifyStatement(nowhere()),
-        Line::Factor(_) => StatementLine::VerifyStatement(nowhere()),
+        Line::Contract(_, _) => StatementLine::VerifyStatement(unplaced()),
+        Line::Declaration(_) => StatementLine::VerifyStatement(unplaced()),
+        Line::StackParam(_, _, _) => StatementLine::VerifyStatement(unplaced()),
+        Line::Block(_) => StatementLine::VerifyStatement(unplaced()),
+        Line::Expression(_) => StatementLine::VerifyStatement(unplaced()),
+        Line::Factor(_) => StatementLine::VerifyStatement(unplaced()),
     }
 }
 

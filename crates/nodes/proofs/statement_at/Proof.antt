@@ -15,38 +15,38 @@ enum-known-l c = search needs
 enum-told : tie.Need-enum-told
 enum-told c = search needs
 
-nowhere-requires : tie.Need-nowhere-requires
-nowhere-requires c κs = search needs
+unplaced-requires : tie.Need-unplaced-requires
+unplaced-requires c κs = search needs
 
 enum-told-2 : tie.Need-enum-told-2
 enum-told-2 c = search needs
 
-nowhere-requires-2 : tie.Need-nowhere-requires-2
-nowhere-requires-2 c κs = search needs
+unplaced-requires-2 : tie.Need-unplaced-requires-2
+unplaced-requires-2 c κs = search needs
 
 enum-told-3 : tie.Need-enum-told-3
 enum-told-3 c = search needs
 
-nowhere-requires-3 : tie.Need-nowhere-requires-3
-nowhere-requires-3 c κs = search needs
+unplaced-requires-3 : tie.Need-unplaced-requires-3
+unplaced-requires-3 c κs = search needs
 
 enum-told-4 : tie.Need-enum-told-4
 enum-told-4 c = search needs
 
-nowhere-requires-4 : tie.Need-nowhere-requires-4
-nowhere-requires-4 c κs = search needs
+unplaced-requires-4 : tie.Need-unplaced-requires-4
+unplaced-requires-4 c κs = search needs
 
 enum-told-5 : tie.Need-enum-told-5
 enum-told-5 c = search needs
 
-nowhere-requires-5 : tie.Need-nowhere-requires-5
-nowhere-requires-5 c κs = search needs
+unplaced-requires-5 : tie.Need-unplaced-requires-5
+unplaced-requires-5 c κs = search needs
 
 enum-told-6 : tie.Need-enum-told-6
 enum-told-6 c = search needs
 
-nowhere-requires-6 : tie.Need-nowhere-requires-6
-nowhere-requires-6 c κs = search needs
+unplaced-requires-6 : tie.Need-unplaced-requires-6
+unplaced-requires-6 c κs = search needs
 
 returns : tie.Need-returns
 returns c = sym (c .before .before .before .row .ensures) ∙ c .before .l .given .1
@@ -76,17 +76,17 @@ statement-at-spec =
     row-requires
     enum-known-l
     enum-told
-    nowhere-requires
+    unplaced-requires
     enum-told-2
-    nowhere-requires-2
+    unplaced-requires-2
     enum-told-3
-    nowhere-requires-3
+    unplaced-requires-3
     enum-told-4
-    nowhere-requires-4
+    unplaced-requires-4
     enum-told-5
-    nowhere-requires-5
+    unplaced-requires-5
     enum-told-6
-    nowhere-requires-6
+    unplaced-requires-6
     returns
     returns-2
     returns-3

@@ -28,7 +28,7 @@ use Rattle.flow.proofs.flow.+check_flow+check_last.Lts-check_flow as ch
 use Rattle.flow.proofs.flow.check_last.Reads as check-last
 use Rattle.flow.proofs.flow.check_last.Kinds as check-last-kinds
 use Rattle.flow.proofs.flow.+check_flow+check_last.Lts-check_last as check-last-lts
-use Rattle.flow.proofs.flow.program_start.Reads as program-start-reads
+use Rattle.ast.proofs.nowhere.Reads as nowhere-reads
 use Rattle.flow.proofs.goes_on.Reads as goes-on-reads
 use Rattle.flow.proofs.place_of.Reads as place-of-reads
 use Rattle.flow.proofs.skip_statement.Reads as skip-statement-reads
@@ -65,8 +65,8 @@ abbrev check-flow-calls : ℕ → check-flow-lts.Claims
 check-flow-calls t = (
   block-at-reads.Asked,
   block-at-reads.Learnt,
-  program-start-reads.Asked,
-  program-start-reads.Learnt,
+  nowhere-reads.Asked,
+  nowhere-reads.Learnt,
   refuse-reads.Asked,
   refuse-reads.Learnt,
   statement-at-reads.Asked,
@@ -91,8 +91,8 @@ check-flow-μ-loop table i n at₀ left₀ at left = left
 check-flow-block-at-requires : (t : ℕ) → check-flow-lts.Need-block-at-requires (check-flow-calls t) (check-flow-at t) check-flow.Post check-flow-Inv-loop check-flow-μ-loop
 check-flow-block-at-requires t c κs = block-holds (c .before .pre .1 .1)
 
-check-flow-program-start-requires : (t : ℕ) → check-flow-lts.Need-program-start-requires (check-flow-calls t) (check-flow-at t) check-flow.Post check-flow-Inv-loop check-flow-μ-loop
-check-flow-program-start-requires t c κs = search needs
+check-flow-nowhere-requires : (t : ℕ) → check-flow-lts.Need-nowhere-requires (check-flow-calls t) (check-flow-at t) check-flow.Post check-flow-Inv-loop check-flow-μ-loop
+check-flow-nowhere-requires t c κs = search needs
 
 check-flow-refuse-requires : (t : ℕ) → check-flow-lts.Need-refuse-requires (check-flow-calls t) (check-flow-at t) check-flow.Post check-flow-Inv-loop check-flow-μ-loop
 check-flow-refuse-requires t c κs = search needs
@@ -101,7 +101,7 @@ check-flow-returns : (t : ℕ) → check-flow-lts.Need-returns (check-flow-calls
 check-flow-returns t c s b j sp =
     let k = c .before .before .before in
     let e = statements-none (lineIn (k .before .before .args .table .now)) s (block-statements (lineIn (k .before .before .args .table .now)) s sp (k .block-at .ensures)) (omega (arith, c .before .before .if1 .taken)) .1 in
-    c .refuse .ensures ∙ ap (λ l. Fault (fault NoReturn l)) (c .before .program-start .ensures) ∙ walked-err j (ap flow e ∙ flow-empty)
+    c .refuse .ensures ∙ ap (λ l. Fault (fault NoReturn l)) (c .before .nowhere .ensures) ∙ walked-err j (ap flow e ∙ flow-empty)
 
 check-flow-add-at : (t : ℕ) → check-flow-lts.Need-add-at (check-flow-calls t) (check-flow-at t) check-flow.Post check-flow-Inv-loop check-flow-μ-loop
 check-flow-add-at t c = omega (arith, block-holds (c .before .before .before .pre .1 .1) .room)
@@ -355,7 +355,7 @@ pub +check-flow+check-last-spec : {M : Type 1} → statement M
     check-flow-Inv-loop
     check-flow-μ-loop
     (check-flow-block-at-requires t)
-    (check-flow-program-start-requires t)
+    (check-flow-nowhere-requires t)
     (check-flow-refuse-requires t)
     (check-flow-returns t)
     (check-flow-add-at t)
