@@ -1,10 +1,11 @@
 -- A number past the last variant stands for the last, and a variant's number for the variant. Assumes nothing.
 use mathlib.Core.Path.{_≡_, refl, sym}
 use mathlib.Core.List.{List, [], _∷_}
-use Prim.Native.Nat.{ℕ, zero, suc, pred, _≤_}
+use Prim.Native.Nat.{ℕ, zero, suc, pred, _≤_, _-_}
 use native.Mathlib.Omega.{arith}
 use lib.ListN.{length, getD}
-use Rattle.ast.specs.Numbers.{targets, types, logicalOps, compareOps, mathOps, unaryOps, cryptoOps, locktimeOps, targetNumber, typeNumber, logicalNumber, compareNumber, mathNumber, unaryNumber, cryptoNumber, locktimeNumber}
+use Rattle.ast.specs.Numbers.{targets, types, logicalOps, compareOps, mathOps, unaryOps, cryptoOps, locktimeOps, targetNumber, typeNumber, logicalNumber, compareNumber, mathNumber, unaryNumber, cryptoNumber, locktimeNumber, kinds, kindFrom}
+use Rattle.ast.specs.declared.ErrorKind.the-variants.{MalformedPubkey}
 use Rattle.ast.specs.declared.Target.{Target}
 use Rattle.ast.specs.declared.Type.{«Type» as ItemType}
 use Rattle.ast.specs.declared.BinaryLogicalOp.{BinaryLogicalOp}
@@ -32,6 +33,10 @@ from-last (x ∷ y ∷ l) d (suc n) h e = from-last (y ∷ l) d n (omega arith) 
 
 pub past-last : {A : Type 0} (l : List A) (d : A) (n : ℕ) → Past n (pred (length l)) → getD l (pred (length l)) d ≡ d → d ≡ getD l n d
 past-last l d n h e = from-last l d n (past n (pred (length l)) h) e
+
+pub kind-past : (n : ℕ) → Past n 22 → MalformedPubkey ≡ kindFrom n
+unfolding kindFrom
+kind-past n h = let b : 22 ≤ n = past n 22 h in from-last kinds MalformedPubkey (n - 1) (omega arith) refl
 
 pub target-back : (x : Target) → getD targets (targetNumber x) Target.Taproot ≡ x
 target-back Target.Legacy = refl

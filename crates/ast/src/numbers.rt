@@ -1,7 +1,7 @@
 // Enum numbers follow the order in src/ast.rs, from 0. A number past the last variant stands for the last.
 ghost use mathlib.Core.Path.{_≡_};
 ghost use lib.ListN.{getD};
-ghost use Rattle.ast.specs.Numbers.{targets, types, logicalOps, compareOps, mathOps, unaryOps, cryptoOps, locktimeOps, targetNumber, typeNumber, logicalNumber, compareNumber, mathNumber, unaryNumber, cryptoNumber, locktimeNumber};
+ghost use Rattle.ast.specs.Numbers.{targets, types, logicalOps, compareOps, mathOps, unaryOps, cryptoOps, locktimeOps, targetNumber, typeNumber, logicalNumber, compareNumber, mathNumber, unaryNumber, cryptoNumber, locktimeNumber, kindFrom};
 ghost use Rattle.ast.specs.Tree.{number};
 ghost use Rattle.ast.specs.declared.Target.the-variants.{Taproot};
 ghost use Rattle.ast.specs.declared.Type.the-variants.{Boolean};
@@ -216,5 +216,36 @@ pub fn error_number(k: ErrorKind) -> u32
         ErrorKind::DeclarationPathMismatch => 20,
         ErrorKind::IntegerOverflow => 21,
         ErrorKind::MalformedPubkey => 22,
+    }
+}
+
+// The kind of a number; 7 to 10 are none, and stand for 6.
+pub fn error_from(n: u32) -> ErrorKind
+    ensures { λ r. ⌜ r ≡ kindFrom n ⌝ }
+{
+    match n {
+        0 => ErrorKind::ListingTooLong,
+        1 => ErrorKind::ListingTooLong,
+        2 => ErrorKind::MalformedLine,
+        3 => ErrorKind::UnexpectedLine,
+        4 => ErrorKind::CeilingPassed,
+        5 => ErrorKind::WorkTooShort,
+        6 => ErrorKind::OutputTooShort,
+        7 => ErrorKind::OutputTooShort,
+        8 => ErrorKind::OutputTooShort,
+        9 => ErrorKind::OutputTooShort,
+        10 => ErrorKind::OutputTooShort,
+        11 => ErrorKind::DuplicateVariable,
+        12 => ErrorKind::UndefinedVariable,
+        13 => ErrorKind::VariableConsumed,
+        14 => ErrorKind::UnusedVariable,
+        15 => ErrorKind::InvalidConsumptionOrder,
+        16 => ErrorKind::TypeMismatch,
+        17 => ErrorKind::InvalidOperation,
+        18 => ErrorKind::NoReturn,
+        19 => ErrorKind::UnreachableCode,
+        20 => ErrorKind::DeclarationPathMismatch,
+        21 => ErrorKind::IntegerOverflow,
+        _ => ErrorKind::MalformedPubkey,
     }
 }
