@@ -1,16 +1,14 @@
 -- The whole analysis, from what its parts answer.
-use Prim.Native.Nat.{ℕ, zero, suc, _+_, _≤_, _<_}
+use Prim.Native.Nat.{ℕ}
 use native.Mathlib.Omega.{arith}
-use mathlib.Core.Bool.{Bool, true, false}
-use mathlib.Core.List.{List, [], _∷_}
-use mathlib.Core.Path.{_≡_, refl, sym, ap, _∙_, subst}
+use mathlib.Core.List.{List}
+use mathlib.Core.Path.{_≡_, refl, sym, ap, _∙_}
 use borrow.Author.Tests.{eq-eqb, ne-eqb}
-use lib.Dec.{eqb}
-use lib.ListN.{length, getD}
+use lib.ListN.{getD}
 use Rattle.ast.specs.declared.CompileError.{CompileError}
 use Rattle.ast.specs.declared.Checked.{Checked}
 use Rattle.ast.specs.declared.Checked.the-variants.{Ok, Err}
-use Rattle.ast.specs.Tree.{Declaration, Contract}
+use Rattle.ast.specs.Tree.{Contract}
 use Rattle.rules.specs.Result.{Result, ok, err, _>>=_, _>>_, both}
 use Rattle.rules.specs.Table.{Table, buildAll}
 use Rattle.rules.specs.Paths.{count}
@@ -21,8 +19,8 @@ use Rattle.rules.specs.Analyze.{counted, analyze}
 use Rattle.usage.specs.declared.NamePlace.{NamePlace}
 use Rattle.analyze.specs.declared.Declared.{Declared}
 use Rattle.analyze.specs.Items.{ContractAt, DeclaredAs, Given}
-use Rattle.analyze.specs.State.{tablesOf, Ready, faultIn, branchIn, outcome, Moved, faulted, passed, turned, settled, started, analyzed}
-use Rattle.analyze.proofs.State.{faulted-says, passed-says, passed-zero, outcome-fault}
+use Rattle.analyze.specs.State.{tablesOf, Ready, faultIn, branchIn, OnlyFault, Moved, started, analyzed, finished, accepted, answered, Analyzed}
+use Rattle.analyze.proofs.State.{outcome-fault, fault-some, fault-in, fault-only}
 use Rattle.analyze.proofs.Statements.{moved-on}
 
 -- what comes after flow and the count
@@ -80,41 +78,58 @@ analyzed-fault ts out h = rw (ne-eqb (getD out 0 0) 0 h, analyzed)
 moved-fault : {s t : List ℕ} {d : Declared} {w : Result Walk} {j : ℕ} {rows : List (List NamePlace)} {taken out : List ℕ} → Moved s t d w j rows taken out → (getD out 0 0 ≡ 0 → ⊥) → w ≡ err (faultIn out)
 moved-fault {s} {t} {d} {rows = rows} {taken = taken} {out = out} m z = sym (m .result) ∙ outcome-fault (tablesOf s t d rows taken) out z
 
-outcome-analyzed : (ts us : List Table) (out : List ℕ) {x : CompileError} → outcome ts out ≡ err x → analyzed us out ≡ err x
-unfolding outcome analyzed
-outcome-analyzed ts us out {x} h = go (eqb (getD out 0 0) 0) refl
-  where
-    go : (b : Bool) → eqb (getD out 0 0) 0 ≡ b → analyzed us out ≡ err x
-    go true e = let f : _≡_ {A = Result Walk} (ok (record { tables = ts; branch = branchIn out })) (err x) = rw (e, outcome) at h in let o : _≡_ {A = ℕ} 0 1 = cc in absurd (omega arith)
-    go false e = let f : _≡_ {A = Result Walk} (err (faultIn out)) (err x) = rw (e, outcome) at h in let g : faultIn out ≡ x = cc in rw (e, analyzed, g)
+analyzed-ok : (ts : List Table) (out : List ℕ) → getD out 0 0 ≡ 0 → analyzed ts out ≡ ok ts
+unfolding analyzed
+analyzed-ok ts out h = rw (eq-eqb (getD out 0 0) 0 h, analyzed)
+
+-- the analysis refuses, or accepts
+pub ends-fault : {s t : List ℕ} {d : Declared} {w : Result (List Table)} {x : CompileError} {rows : List (List NamePlace)} {taken out : List ℕ} → OnlyFault x rows taken out → w ≡ err x → Analyzed s t d w rows taken out
+unfolding answered
+ends-fault {s} {t} {d} {rows = rows} {taken = taken} {out = out} f e = record {
+  result = analyzed-fault (tablesOf s t d rows taken) out (fault-some f) ∙ ap err (fault-in f) ∙ sym e;
+  numbers = f .numbers ∙ ap answered (sym e);
+  ready = λ z. absurd (fault-some f z);
+  refused = λ z. fault-only f;
+}
+
+pub ends-ok : {s t : List ℕ} {d : Declared} {w : Result (List Table)} {rows : List (List NamePlace)} {taken out : List ℕ} → out ≡ accepted → w ≡ ok (tablesOf s t d rows taken) → Ready s t d rows taken → Analyzed s t d w rows taken out
+unfolding answered accepted
+ends-ok {s} {t} {d} {rows = rows} {taken = taken} {out = out} q e r = record {
+  result = analyzed-ok (tablesOf s t d rows taken) out (ap (λ o. getD o 0 0) q) ∙ sym e;
+  numbers = q ∙ ap answered (sym e);
+  ready = λ z. r;
+  refused = λ z. absurd (z (ap (λ o. getD o 0 0) q));
+}
+
+-- the same under another name of its result
+ends-as : {s t : List ℕ} {d : Declared} {w v : Result (List Table)} {rows : List (List NamePlace)} {taken out : List ℕ} → Analyzed s t d w rows taken out → w ≡ v → Analyzed s t d v rows taken out
+ends-as a e = record { result = a .result ∙ e; numbers = a .numbers ∙ ap answered e; ready = a .ready; refused = a .refused }
+
+-- a step of the walk refused
+ends-moved : {s t : List ℕ} {d : Declared} {w : Result Walk} {v : Result (List Table)} {j : ℕ} {rows : List (List NamePlace)} {taken out : List ℕ} → Moved s t d w j rows taken out → (z : getD out 0 0 ≡ 0 → ⊥) → ((x : CompileError) → w ≡ err x → v ≡ err x) → Analyzed s t d v rows taken out
+ends-moved m z f = ends-fault (m .refused z) (f _ (moved-fault m z))
 
 module _ {s t : List ℕ} {d : Declared} {c : Contract} {n : ℕ} (D : DeclaredAs s t d c n) where
-  pub stops-at-shape : (out out′ : List ℕ) {x : CompileError} {y : Checked} → length out ≡ 7 → y ≡ both (flow (c .block)) (counted (count (c .block)) (c .declarations)) → y ≡ Err x → out′ ≡ faulted out x → (ts : List Table) → analyzed ts out′ ≡ analyze c
-  stops-at-shape out out′ {x} full e f q ts = outcome-analyzed ts ts out′ (ap (outcome ts) q ∙ faulted-says out x ts full .0) ∙ sym (shape-stops c (sym e ∙ f))
+  pub stops-at-shape : {x : CompileError} {y : Checked} → y ≡ both (flow (c .block)) (counted (count (c .block)) (c .declarations)) → y ≡ Err x → {rows : List (List NamePlace)} {taken out : List ℕ} → OnlyFault x rows taken out → Analyzed s t d (analyze c) rows taken out
+  stops-at-shape e f o = ends-fault o (shape-stops c (sym e ∙ f))
 
   module _ {y : Checked} (shape : y ≡ both (flow (c .block)) (counted (count (c .block)) (c .declarations))) (passes : y ≡ Ok) where
     whole : analyze c ≡ rest c
     whole = shape-passes c (sym shape ∙ passes)
 
     module _ {rows₁ : List (List NamePlace)} {taken₁ out₁ : List ℕ} (m₁ : Moved s t d (started (c .declarations)) (d .block) rows₁ taken₁ out₁) where
-      pub stops-at-build : (getD out₁ 0 0 ≡ 0 → ⊥) → analyzed (tablesOf s t d rows₁ taken₁) out₁ ≡ analyze c
-      stops-at-build z = analyzed-fault (tablesOf s t d rows₁ taken₁) out₁ z ∙ sym (whole ∙ started-err c (moved-fault m₁ z))
+      pub stops-at-build : (getD out₁ 0 0 ≡ 0 → ⊥) → Analyzed s t d (analyze c) rows₁ taken₁ out₁
+      stops-at-build z = ends-moved m₁ z (λ x e. whole ∙ started-err c e)
 
       module _ (z₁ : getD out₁ 0 0 ≡ 0) {j : ℕ} {rows₂ : List (List NamePlace)} {taken₂ out₂ : List ℕ} (m₂ : Moved s t d (walk (c .block) (d .target) (tablesOf s t d rows₁ taken₁) (branchIn out₁)) j rows₂ taken₂ out₂) where
         after : analyze c ≡ (walk (c .block) (d .target) (tablesOf s t d rows₁ taken₁) (branchIn out₁) >>= λ w. unusedAll (w .tables) >> ok (w .tables))
         after = whole ∙ started-ok c (moved-on m₁ z₁) ∙ ap (λ g. walk (c .block) g (tablesOf s t d rows₁ taken₁) (branchIn out₁) >>= λ w. unusedAll (w .tables) >> ok (w .tables)) (sym (D .target))
 
-        pub stops-at-walk : (getD out₂ 0 0 ≡ 0 → ⊥) → analyzed (tablesOf s t d rows₂ taken₂) out₂ ≡ analyze c
-        stops-at-walk z = analyzed-fault (tablesOf s t d rows₂ taken₂) out₂ z ∙ sym (after ∙ rw (moved-fault m₂ z))
+        pub stops-at-walk : (getD out₂ 0 0 ≡ 0 → ⊥) → Analyzed s t d (analyze c) rows₂ taken₂ out₂
+        stops-at-walk z = ends-moved m₂ z (λ x e. after ∙ rw e)
 
-        pub ends : getD out₂ 0 0 ≡ 0 → (y : Checked) (out₃ : List ℕ) (k : ℕ) → y ≡ unusedAll (tablesOf s t d rows₂ taken₂) → out₃ ≡ settled out₂ y k → analyzed (tablesOf s t d rows₂ taken₂) out₃ ≡ analyze c
-        unfolding settled analyzed
-        ends z Ok out₃ k e q =
-            let p = passed-says out₂ k (tablesOf s t d rows₂ taken₂) (m₂ .full) in
-            ap (analyzed (tablesOf s t d rows₂ taken₂)) q ∙ rw (eq-eqb (getD (passed out₂ k) 0 0) 0 (passed-zero out₂ k (m₂ .full)), analyzed) (sym (after ∙ rw (moved-on m₂ z, ← e)))
-        ends z (Err x) out₃ k e q =
-            let f = faulted-says out₂ x (tablesOf s t d rows₂ taken₂) (m₂ .full) in
-            outcome-analyzed (tablesOf s t d rows₂ taken₂) (tablesOf s t d rows₂ taken₂) out₃ (ap (outcome (tablesOf s t d rows₂ taken₂)) q ∙ f .0) ∙ sym (after ∙ rw (moved-on m₂ z, ← e))
+        pub ends : getD out₂ 0 0 ≡ 0 → {rows : List (List NamePlace)} {taken out : List ℕ} → Analyzed s t d (finished (tablesOf s t d rows₂ taken₂)) rows taken out → Analyzed s t d (analyze c) rows taken out
+        ends z a = ends-as a (sym (after ∙ rw (moved-on m₂ z)))
 
 pub given-at : {s t : List ℕ} {d : Declared} {n : ℕ} (C : ContractAt s t n) → DeclaredAs s t d (C .contract) n → Given s t d
 given-at {n = n} C D = record { contract = C .contract; count = n; rows = C .rows; declared = D }

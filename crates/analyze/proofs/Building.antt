@@ -1,36 +1,32 @@
 -- The tables of all paths, built one after another.
-use Prim.Native.Nat.{ℕ, zero, suc, _+_, _/_, _%_, _-_, _≤_, _<_}
+use Prim.Native.Nat.{ℕ, zero, suc, _+_, _/_, _-_, _≤_, _<_}
 use native.Mathlib.Numerals.{add-one}
 use native.Mathlib.Omega.{arith}
 use mathlib.Core.Bool.{Bool, true, false}
 use mathlib.Core.List.{List, [], _∷_, _++_, append-assoc, append-nil, map}
-use mathlib.Core.Option.{Option, some, none}
+use mathlib.Core.Option.{none}
 use mathlib.Core.Path.{_≡_, refl, sym, ap, _∙_, subst}
 use borrow.Author.Tests.{eqb-true, eqb-false}
 use lib.Dec.{eqb}
 use lib.ListN.{length, getD, set, drop, drop-of-length-le}
-use lib.Seq.{drop-cons}
+use lib.Seq.{drop-cons, getD-set-other}
 use Rattle.ast.specs.declared.CompileError.{CompileError}
 use Rattle.ast.specs.Tree.{Name, StackParam, Declaration, fromTop, Contract}
-use Rattle.rows.specs.Rows.{lineIn}
-use Rattle.reader.specs.Reading.{item}
-use Rattle.reader.specs.Spells.{SpellsItems}
-use Rattle.nodes.specs.declared.Answer.the-variants.{Pass, Fault}
+use Rattle.nodes.specs.declared.Answer.the-variants.{Pass}
 use Rattle.rules.specs.Result.{Result, ok, err, _>>=_}
-use Rattle.rules.specs.Table.{Entry, Table, params, among, enter, build, buildAll}
-use Rattle.rules.specs.Walk.{Walked as Walk}
+use Rattle.rules.specs.Table.{Table, params, among, enter, build, buildAll}
 use Rattle.names.specs.Items.{ItemsAt, itemsDown}
 use Rattle.usage.specs.declared.NamePlace.{NamePlace}
 use Rattle.usage.specs.declared.Path.{Path}
 use Rattle.usage.specs.declared.Used.{Used}
 use Rattle.names.proofs.Laws.{items-are}
 use Rattle.usage.specs.Tables.{Built}
-use Rattle.usage.specs.Path.{tableFrom, tableOf, WellFormed, resultOf}
+use Rattle.usage.specs.Path.{tableFrom, tableOf, WellFormed}
 use Rattle.analyze.specs.declared.Declared.{Declared}
 use Rattle.analyze.specs.Items.{Items, DeclaredAs, Given}
-use Rattle.analyze.specs.State.{pathAt, tablesFrom, tablesOf, PathReady, Ready, branchIn, Moved, faulted, passed, started}
-use Rattle.analyze.proofs.State.{faulted-says, passed-says, other-path, same-path}
-use Rattle.analyze.proofs.Walking.{result-fault, result-pass}
+use Rattle.analyze.specs.State.{pathAt, tablesFrom, tablesOf, PathReady, Ready, branchIn, noneTaken, noRows, OnlyFault, Moved, passed, started}
+use Rattle.analyze.proofs.State.{passed-says, passed-zero, none-taken-at, moved-refused, other-path, same-path}
+use Rattle.analyze.proofs.Walking.{result-pass}
 
 -- what is built has the declaration's items
 enter-params : (met : List Name) (ps : List StackParam) {t : Table} → enter met ps ≡ ok t → params t ≡ ps
@@ -154,18 +150,25 @@ module _ (s t : List ℕ) (d : Declared) (G : Given s t d) {p : ℕ} (more : p <
         choose true e = subst (λ q. PathReady s t (getD (d .firsts) q 0) (getD (d .counts) q 0) (pathAt d (set rows p (u .path .places)) (set taken p (u .path .taken)) q)) (sym (eqb-true q p e)) (subst (PathReady s t (getD (d .firsts) p 0) (getD (d .counts) p 0)) (sym (put-is rows taken f g h)) (record { formed = formed; items = items-at; same = same-items }))
         choose false e = let o = eqb-false q p e in subst (PathReady s t (getD (d .firsts) q 0) (getD (d .counts) q 0)) (sym (other-path s t d rows taken p (u .path .places) (u .path .taken) q o)) (r q (omega arith))
 
+-- the paths that are not built yet are empty
+pub record Empty (rows : List (List NamePlace)) (taken : List ℕ) (p : ℕ) : Type 0 where
+  pub no-places : (q : ℕ) → p ≤ q → getD rows q [] ≡ getD noRows q []
+  pub none-taken : (q : ℕ) → p ≤ q → getD taken q 0 ≡ 0
+
+pub empty-all : {rows : List (List NamePlace)} {taken : List ℕ} → rows ≡ noRows → taken ≡ noneTaken → Empty rows taken 0
+empty-all e f = record { no-places = λ q h. ap (λ r. getD r q []) e; none-taken = λ q h. ap (λ t. getD t q 0) f ∙ none-taken-at q }
+
+pub empty-less : (rows : List (List NamePlace)) (taken : List ℕ) (p : ℕ) (x : List NamePlace) (y : ℕ) → Empty rows taken p → Empty (set rows p x) (set taken p y) (p + 1)
+empty-less rows taken p x y e = record {
+  no-places = λ q h. getD-set-other rows p q x [] (λ z. omega arith) ∙ e .no-places q (omega arith);
+  none-taken = λ q h. getD-set-other taken p q y 0 (λ z. omega arith) ∙ e .none-taken q (omega arith);
+}
+
 -- the answer in numbers
 module _ (s t : List ℕ) (d : Declared) {c : Contract} {n : ℕ} (D : DeclaredAs s t d c n) where
-  pub built-fault : (rows : List (List NamePlace)) (taken out out′ : List ℕ) (x : CompileError) → length out ≡ 7 → buildAll (c .declarations) ≡ err x → out′ ≡ faulted out x → Moved s t d (started (c .declarations)) (d .block) rows taken out′
+  pub built-fault : {rows : List (List NamePlace)} {taken out : List ℕ} {x : CompileError} → buildAll (c .declarations) ≡ err x → OnlyFault x rows taken out → Moved s t d (started (c .declarations)) (d .block) rows taken out
   unfolding started
-  built-fault rows taken out out′ x full e q =
-      let f = faulted-says out x (tablesOf s t d rows taken) full in
-      record {
-        result = rw (q, e) (f .0);
-        full = ap length q ∙ f .2;
-        next = λ z. absurd (f .1 (sym (ap (λ o. getD o 0 0) q) ∙ z));
-        ready = λ z. absurd (f .1 (sym (ap (λ o. getD o 0 0) q) ∙ z));
-      }
+  built-fault e f = moved-refused f (rw e)
 
   pub built-all : (rows : List (List NamePlace)) (taken out out′ : List ℕ) → length out ≡ 7 → branchIn out ≡ 0 → Ready s t d rows taken → buildAll (c .declarations) ≡ ok (tablesOf s t d rows taken) → out′ ≡ passed out (d .block) → Moved s t d (started (c .declarations)) (d .block) rows taken out′
   unfolding started
@@ -176,4 +179,5 @@ module _ (s t : List ℕ) (d : Declared) {c : Contract} {n : ℕ} (D : DeclaredA
         full = ap length q ∙ p .2;
         next = λ z. ap (λ o. getD o 5 0) q ∙ p .1;
         ready = λ z. r;
+        refused = λ z. absurd (z (ap (λ o. getD o 0 0) q ∙ passed-zero out (d .block) full));
       }

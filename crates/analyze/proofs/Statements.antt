@@ -4,8 +4,7 @@ use native.Mathlib.Numerals.{add-one}
 use native.Mathlib.Omega.{arith}
 use mathlib.Core.Bool.{Bool, true, false}
 use mathlib.Core.List.{List, [], _∷_}
-use mathlib.Core.Logic.{_⊎_, inl, inr}
-use mathlib.Core.Option.{Option, some, none}
+use mathlib.Core.Option.{some}
 use mathlib.Core.Path.{_≡_, refl, sym, ap, _∙_, subst}
 use borrow.Author.Tests.{ltb-true, ltb-false}
 use lib.Dec.{ltb}
@@ -18,14 +17,14 @@ use Rattle.ast.specs.declared.ErrorKind.the-variants.{DeclarationPathMismatch}
 use Rattle.ast.specs.declared.CompileError.{CompileError}
 use Rattle.ast.specs.declared.Checked.{Checked}
 use Rattle.ast.specs.declared.Checked.the-variants.{Ok, Err}
-use Rattle.ast.specs.Tree.{Expression, Statement, IfStatement, IfElseStatement, LocktimeStatement, VerifyStatement, ExpressionStatement, Block, []ᵇ, _∷ᵇ_}
+use Rattle.ast.specs.Tree.{Expression, Statement, IfStatement, LocktimeStatement, VerifyStatement, ExpressionStatement, Block, []ᵇ, _∷ᵇ_}
 use Rattle.listing.specs.declared.Line.{Line}
 use Rattle.listing.specs.declared.StatementLine.{StatementLine}
 use Rattle.reader.specs.Spells.{SpellsExpression, SpellsStatement, SpellsBlock, SpellsStatements}
 use Rattle.reader.proofs.Inversion.{StatementFrom}
-use Rattle.reader.proofs.Agree.{expression-on, statement-on, block-on, statements-on}
+use Rattle.reader.proofs.Agree.{block-on, statements-on}
 use Rattle.rows.specs.Rows.{lineIn}
-use Rattle.nodes.specs.Stands.{Stands, ExpressionAt, StatementAt, BlockAt}
+use Rattle.nodes.specs.Stands.{ExpressionAt, StatementAt, BlockAt}
 use Rattle.nodes.proofs.Laws.{below}
 use Rattle.rules.specs.Result.{Result, ok, err, _>>=_, _>>_}
 use Rattle.rules.specs.Table.{Table}
@@ -35,51 +34,40 @@ use Rattle.usage.specs.declared.NamePlace.{NamePlace}
 use Rattle.usage.specs.declared.Path.{Path}
 use Rattle.usage.specs.Path.{tableOf}
 use Rattle.analyze.specs.declared.Declared.{Declared}
-use Rattle.analyze.specs.State.{pathAt, tablesOf, Ready, faultIn, branchIn, outcome, Moved, examined, passed, settled}
-use Rattle.analyze.proofs.State.{faulted-says, passed-says, outcome-pass, outcome-fault, table-at, table-past}
+use Rattle.analyze.specs.State.{pathAt, tablesOf, Ready, faultIn, branchIn, outcome, OnlyFault, Moved, examined, waited, passed}
+use Rattle.analyze.proofs.State.{passed-says, passed-zero, moved-refused, outcome-pass, outcome-fault, table-at, table-past}
 
 -- the same step under another name of its result
 pub moved-as : {s t : List ℕ} {d : Declared} {w v : Result Walk} {j k : ℕ} {rows : List (List NamePlace)} {taken out : List ℕ} → Moved s t d w j rows taken out → w ≡ v → j ≡ k → Moved s t d v k rows taken out
-moved-as m e q = record { result = m .result ∙ e; full = m .full; next = λ z. m .next z ∙ q; ready = m .ready }
+moved-as m e q = record { result = m .result ∙ e; full = m .full; next = λ z. m .next z ∙ q; ready = m .ready; refused = m .refused }
 
 -- a step that refused, as the result of what would have gone on
 pub moved-stop : {s t : List ℕ} {d : Declared} {w : Result Walk} {j : ℕ} {rows : List (List NamePlace)} {taken out : List ℕ} → Moved s t d w j rows taken out → (getD out 0 0 ≡ 0 → ⊥) → (v : Result Walk) (k : ℕ) → ((x : CompileError) → w ≡ err x → v ≡ err x) → Moved s t d v k rows taken out
 moved-stop {s} {t} {d} {rows = rows} {taken = taken} {out = out} m z v k f =
     let e = outcome-fault (tablesOf s t d rows taken) out z in
-    record { result = e ∙ sym (f (faultIn out) (sym (m .result) ∙ e)); full = m .full; next = λ y. absurd (z y); ready = λ y. absurd (z y) }
+    record { result = e ∙ sym (f (faultIn out) (sym (m .result) ∙ e)); full = m .full; next = λ y. absurd (z y); ready = λ y. absurd (z y); refused = m .refused }
 
 -- a step that passed
 pub moved-on : {s t : List ℕ} {d : Declared} {w : Result Walk} {j : ℕ} {rows : List (List NamePlace)} {taken out : List ℕ} → Moved s t d w j rows taken out → getD out 0 0 ≡ 0 → w ≡ ok (record { tables = tablesOf s t d rows taken; branch = branchIn out })
 moved-on {s} {t} {d} {rows = rows} {taken = taken} {out = out} m z = sym (m .result) ∙ outcome-pass (tablesOf s t d rows taken) out z
 
+-- a pass to row i, the tables as they are
+pub moved-end : {s t : List ℕ} (d : Declared) (rows : List (List NamePlace)) (taken out : List ℕ) {whole : Result Walk} {i j : ℕ} (out′ : List ℕ) → length out ≡ 7 → Ready s t d rows taken → (whole ≡ ok (record { tables = tablesOf s t d rows taken; branch = branchIn out })) × (i ≡ j) → out′ ≡ passed out i → Moved s t d whole j rows taken out′
+moved-end {s} {t} d rows taken out {whole} {i} out′ full r e q =
+    let p = passed-says out i (tablesOf s t d rows taken) full in
+    record { result = ap (outcome (tablesOf s t d rows taken)) q ∙ p .0 ∙ sym (e .0); full = ap length q ∙ p .2; next = λ z. ap (λ o. getD o 5 0) q ∙ p .1 ∙ e .1; ready = λ z. r; refused = λ z. absurd (z (ap (λ o. getD o 0 0) q ∙ passed-zero out i full)) }
+
 -- a wait
-pub moved-wait : {s t : List ℕ} (d : Declared) (rows : List (List NamePlace)) (taken out : List ℕ) {i j : ℕ} {x : Statement} {l : Location} {o : LocktimeOp} {v : Signed} → length out ≡ 7 → Ready s t d rows taken → x ≡ LocktimeStatement l (suc i) o v → j ≡ suc i → (c : Checked) (out′ : List ℕ) → c ≡ wait l o v → out′ ≡ settled out c (i + 1) → Moved s t d (walkStatement x (d .target) (tablesOf s t d rows taken) (branchIn out)) j rows taken out′
-unfolding walkStatement settled
-moved-wait {s = s} {t = t} d rows taken out {i} {j} {x} {l} {o} {v} full r x-is j-is c out′ e q = go c e q
-  where
-    ts : List Table
-    ts = tablesOf s t d rows taken
+module _ {s t : List ℕ} {d : Declared} (l : Location) (o : LocktimeOp) (v : Signed) where
+  pub wait-refused : (ts : List Table) (n : ℕ) {c : Checked} {x : CompileError} → c ≡ wait l o v → c ≡ Err x → (j : ℕ) {rows : List (List NamePlace)} {taken out : List ℕ} → OnlyFault x rows taken out → Moved s t d (waited l o v ts n) j rows taken out
+  wait-refused ts n said e j f = moved-refused f (rw (sym said ∙ e))
 
-    is : walkStatement x (d .target) ts (branchIn out) ≡ (wait l o v >> ok (record { tables = ts; branch = branchIn out }))
-    is = ap (λ y. walkStatement y (d .target) ts (branchIn out)) x-is
+  pub wait-passed : (rows : List (List NamePlace)) (taken out : List ℕ) {c : Checked} → c ≡ wait l o v → c ≡ Ok → (j : ℕ) (out′ : List ℕ) → length out ≡ 7 → Ready s t d rows taken → out′ ≡ passed out j → Moved s t d (waited l o v (tablesOf s t d rows taken) (branchIn out)) j rows taken out′
+  wait-passed rows taken out said e j out′ full r q = moved-end d rows taken out out′ full r (rw (sym said ∙ e), refl) q
 
-    go : (c : Checked) → c ≡ wait l o v → out′ ≡ settled out c (i + 1) → Moved s t d (walkStatement x (d .target) ts (branchIn out)) j rows taken out′
-    go Ok e q =
-        let p = passed-says out (i + 1) ts full in
-        record {
-          result = rw (q, is, ← e) (p .0);
-          full = ap length q ∙ p .2;
-          next = λ z. ap (λ o. getD o 5 0) q ∙ p .1 ∙ add-one i ∙ sym j-is;
-          ready = λ z. r;
-        }
-    go (Err y) e q =
-        let p = faulted-says out y ts full in
-        record {
-          result = rw (q, is, ← e) (p .0);
-          full = ap length q ∙ p .2;
-          next = λ z. absurd (p .1 (sym (ap (λ o. getD o 0 0) q) ∙ z));
-          ready = λ z. absurd (p .1 (sym (ap (λ o. getD o 0 0) q) ∙ z));
-        }
+  pub wait-moves : {x : Statement} {m : ℕ} (ts : List Table) (n : ℕ) {i j : ℕ} {rows : List (List NamePlace)} {taken out : List ℕ} → x ≡ LocktimeStatement l m o v → j ≡ suc i → Moved s t d (waited l o v ts n) (i + 1) rows taken out → Moved s t d (walkStatement x (d .target) ts n) j rows taken out
+  unfolding walkStatement
+  wait-moves ts n {i} h k m = moved-as m (ap (λ y. walkStatement y (d .target) ts n) (sym h)) (add-one i ∙ sym k)
 
 -- a condition that passed: the table after it, and the path in use
 pub record Passed (g : Target) (l : Location) (e : Expression) (ts : List Table) (n : ℕ) (w : Walk) : Type 0 where
@@ -227,12 +215,6 @@ module _ {L : ℕ → Line} {s : List ℕ} {g : Target} {count k i j : ℕ} {who
 pub going-end : {L : ℕ → Line} {s : List ℕ} {g : Target} {left i j : ℕ} {whole : Result Walk} {ts : List Table} {n : ℕ} → Going L s g left i j whole ts n → left ≡ 0 → (whole ≡ ok (record { tables = ts; branch = n })) × (i ≡ j)
 unfolding walk
 going-end {g = g} {ts = ts} {n = n} h e = let z = no-statements e (h .spells) in (sym (h .same) ∙ ap (λ b. walk b g ts n) (z .0), z .1)
-
--- the end of a block
-pub moved-end : {s t : List ℕ} (d : Declared) (rows : List (List NamePlace)) (taken out : List ℕ) {whole : Result Walk} {i j : ℕ} (out′ : List ℕ) → length out ≡ 7 → Ready s t d rows taken → (whole ≡ ok (record { tables = tablesOf s t d rows taken; branch = branchIn out })) × (i ≡ j) → out′ ≡ passed out i → Moved s t d whole j rows taken out′
-moved-end {s} {t} d rows taken out {whole} {i} out′ full r e q =
-    let p = passed-says out i (tablesOf s t d rows taken) full in
-    record { result = ap (outcome (tablesOf s t d rows taken)) q ∙ p .0 ∙ sym (e .0); full = ap length q ∙ p .2; next = λ z. ap (λ o. getD o 5 0) q ∙ p .1 ∙ e .1; ready = λ z. r }
 
 -- an if, step by step: its condition has passed
 module _ {L : ℕ → Line} (s t : List ℕ) (d : Declared) {l : Location} {i j : ℕ} {x : Statement} (ts : List Table) (n : ℕ) (rows₁ : List (List NamePlace)) (taken₁ out₁ : List ℕ) where

@@ -1,29 +1,25 @@
 -- The steps of the walk, from what the functions below it answer.
-use Prim.Native.Nat.{ℕ, zero, suc, _+_, _%_, _^_, _≤_, _<_}
+use Prim.Native.Nat.{ℕ, _+_, _≤_, _<_}
 use native.Mathlib.Numerals.{add-one}
 use native.Mathlib.Omega.{arith}
-use mathlib.Core.Bool.{Bool, true, false}
-use mathlib.Core.List.{List, [], _∷_}
-use mathlib.Core.Option.{Option, some, none}
-use mathlib.Core.Path.{_≡_, refl, sym, ap, _∙_, subst}
-use lib.ListN.{length, getD, set, getElem?}
-use Rattle.ast.specs.declared.Target.{Target}
+use mathlib.Core.List.{List}
+use mathlib.Core.Path.{_≡_, sym, ap, _∙_, subst}
+use lib.ListN.{length, getD, set}
 use Rattle.ast.specs.declared.Location.{Location}
 use Rattle.ast.specs.declared.ErrorKind.the-variants.{DeclarationPathMismatch}
 use Rattle.ast.specs.declared.CompileError.{CompileError}
 use Rattle.ast.specs.Tree.{Expression, fault}
-use Rattle.rules.specs.Result.{Result, ok, err, _>>=_}
+use Rattle.rules.specs.Result.{Result, ok, err}
 use Rattle.rules.specs.Table.{Table, params}
 use Rattle.rules.specs.Transfer.{transfer}
 use Rattle.rules.specs.Walk.{Walked as Walk, examine, tableAt, examineAt, cross}
 use Rattle.nodes.specs.declared.Answer.the-variants.{Pass, Fault}
 use Rattle.usage.specs.declared.NamePlace.{NamePlace}
-use Rattle.usage.specs.declared.Path.{Path}
 use Rattle.usage.specs.declared.Used.{Used}
-use Rattle.usage.specs.Path.{tableOf, WellFormed, SameItems, resultWith, resultOf, Onward, Walked}
+use Rattle.usage.specs.Path.{tableOf, WellFormed, resultWith, resultOf, Onward, Walked}
 use Rattle.analyze.specs.declared.Declared.{Declared}
-use Rattle.analyze.specs.State.{pathAt, tablesOf, PathReady, Ready, branchIn, outcome, Moved, examined, faulted, passed, turned}
-use Rattle.analyze.proofs.State.{faulted-says, passed-says, turned-says, items-same, table-at, table-past, tables-set, ready-set}
+use Rattle.analyze.specs.State.{pathAt, tablesOf, Ready, branchIn, OnlyFault, Moved, examined, passed, turned}
+use Rattle.analyze.proofs.State.{passed-says, passed-zero, turned-says, turned-zero, moved-refused, items-same, table-at, table-past, tables-set, ready-set}
 
 -- what a walk on one path says
 pub result-fault : (s t : List ℕ) (u : Used) {x : CompileError} {w : Result Table} → resultOf s t u ≡ w → u .answer ≡ Fault x → w ≡ err x
@@ -56,16 +52,9 @@ module _ (s t : List ℕ) (d : Declared) (l : Location) (e : Expression) (rows :
   before = tablesOf s t d rows taken
 
   -- no such path
-  pub moved-past : (j : ℕ) (out′ : List ℕ) → d .count ≤ here → out′ ≡ faulted out (fault DeclarationPathMismatch l) → Moved s t d (examined (d .target) l e before here) j rows taken out′
+  pub moved-past : (j : ℕ) → d .count ≤ here → {rows′ : List (List NamePlace)} {taken′ out′ : List ℕ} → OnlyFault (fault DeclarationPathMismatch l) rows′ taken′ out′ → Moved s t d (examined (d .target) l e before here) j rows′ taken′ out′
   unfolding examined examineAt tableAt
-  moved-past j out′ h q =
-      let f = faulted-says out (fault DeclarationPathMismatch l) before full in
-      record {
-        result = rw (q, table-past s t d rows taken here h, tableAt) (f .0);
-        full = ap length q ∙ f .2;
-        next = λ z. absurd (f .1 (sym (ap (λ o. getD o 0 0) q) ∙ z));
-        ready = λ z. absurd (f .1 (sym (ap (λ o. getD o 0 0) q) ∙ z));
-      }
+  moved-past j h f = moved-refused f (rw (table-past s t d rows taken here h, tableAt))
 
   module _ (within : here < d .count) (j : ℕ) (u : Used) (w : Walked s t (pathAt d rows taken here) (examine (d .target) e (tableOf s t (pathAt d rows taken here))) j u) where
     -- the rule on the path in use
@@ -73,16 +62,9 @@ module _ (s t : List ℕ) (d : Declared) (l : Location) (e : Expression) (rows :
     unfolding examineAt tableAt
     on-path = rw (table-at s t d rows taken here within, tableAt)
 
-    pub moved-fault : (x : CompileError) (out′ : List ℕ) → u .answer ≡ Fault x → out′ ≡ faulted out x → Moved s t d (examined (d .target) l e before here) j rows taken out′
+    pub moved-fault : {x : CompileError} → u .answer ≡ Fault x → {rows′ : List (List NamePlace)} {taken′ out′ : List ℕ} → OnlyFault x rows′ taken′ out′ → Moved s t d (examined (d .target) l e before here) j rows′ taken′ out′
     unfolding examined
-    moved-fault x out′ a q =
-        let f = faulted-says out x before full in
-        record {
-          result = rw (q, on-path, result-fault s t u (w .result) a) (f .0);
-          full = ap length q ∙ f .2;
-          next = λ z. absurd (f .1 (sym (ap (λ o. getD o 0 0) q) ∙ z));
-          ready = λ z. absurd (f .1 (sym (ap (λ o. getD o 0 0) q) ∙ z));
-        }
+    moved-fault a f = moved-refused f (rw (on-path, result-fault s t u (w .result) a))
 
     pub moved-pass : Ready s t d rows taken → (n m : ℕ) (out′ : List ℕ) → u .answer ≡ Pass n → m ≡ n → out′ ≡ passed out m → Moved s t d (examined (d .target) l e before here) j (set rows here (u .path .places)) (set taken here (u .path .taken)) out′
     unfolding examined
@@ -95,6 +77,7 @@ module _ (s t : List ℕ) (d : Declared) (l : Location) (e : Expression) (rows :
           full = ap length q ∙ p .2;
           next = λ z. ap (λ o. getD o 5 0) q ∙ p .1 ∙ k ∙ on .next;
           ready = λ z. put .1;
+          refused = λ z. absurd (z (ap (λ o. getD o 0 0) q ∙ passed-zero out m full));
         }
 
 -- from the if-block to the next path; v is the table after the condition
@@ -102,28 +85,14 @@ module _ (s t : List ℕ) (d : Declared) (l : Location) (v : Table) (rows : List
   abbrev come : Walk
   come = record { tables = tablesOf s t d rows taken; branch = branchIn out }
 
-  pub crossed-past : (out′ : List ℕ) → d .count ≤ branchIn out + 1 → out′ ≡ faulted out (fault DeclarationPathMismatch l) → Moved s t d (cross l v come) (getD out 5 0) rows taken out′
+  pub crossed-past : d .count ≤ branchIn out + 1 → {rows′ : List (List NamePlace)} {taken′ out′ : List ℕ} → OnlyFault (fault DeclarationPathMismatch l) rows′ taken′ out′ → Moved s t d (cross l v come) (getD out 5 0) rows′ taken′ out′
   unfolding cross tableAt
-  crossed-past out′ h q =
-      let f = faulted-says out (fault DeclarationPathMismatch l) (tablesOf s t d rows taken) full in
-      record {
-        result = rw (q, ← add-one (branchIn out), table-past s t d rows taken (branchIn out + 1) h, tableAt) (f .0);
-        full = ap length q ∙ f .2;
-        next = λ z. absurd (f .1 (sym (ap (λ o. getD o 0 0) q) ∙ z));
-        ready = λ z. absurd (f .1 (sym (ap (λ o. getD o 0 0) q) ∙ z));
-      }
+  crossed-past h f = moved-refused f (rw (← add-one (branchIn out), table-past s t d rows taken (branchIn out + 1) h, tableAt))
 
   module _ (within : branchIn out + 1 < d .count) (u : Used) (w : Walked s t (pathAt d rows taken (branchIn out + 1)) (transfer l v (tableOf s t (pathAt d rows taken (branchIn out + 1)))) 0 u) where
-    pub crossed-fault : (x : CompileError) (out′ : List ℕ) → u .answer ≡ Fault x → out′ ≡ faulted out x → Moved s t d (cross l v come) (getD out 5 0) rows taken out′
+    pub crossed-fault : {x : CompileError} → u .answer ≡ Fault x → {rows′ : List (List NamePlace)} {taken′ out′ : List ℕ} → OnlyFault x rows′ taken′ out′ → Moved s t d (cross l v come) (getD out 5 0) rows′ taken′ out′
     unfolding cross tableAt
-    crossed-fault x out′ a q =
-        let f = faulted-says out x (tablesOf s t d rows taken) full in
-        record {
-          result = rw (q, ← add-one (branchIn out), table-at s t d rows taken (branchIn out + 1) within, tableAt, result-fault s t u (w .result) a) (f .0);
-          full = ap length q ∙ f .2;
-          next = λ z. absurd (f .1 (sym (ap (λ o. getD o 0 0) q) ∙ z));
-          ready = λ z. absurd (f .1 (sym (ap (λ o. getD o 0 0) q) ∙ z));
-        }
+    crossed-fault a f = moved-refused f (rw (← add-one (branchIn out), table-at s t d rows taken (branchIn out + 1) within, tableAt, result-fault s t u (w .result) a))
 
     pub crossed-pass : Ready s t d rows taken → (n : ℕ) (out′ : List ℕ) → u .answer ≡ Pass n → out′ ≡ turned out (branchIn out + 1) → Moved s t d (cross l v come) (getD out 5 0) (set rows (branchIn out + 1) (u .path .places)) (set taken (branchIn out + 1) (u .path .taken)) out′
     unfolding cross tableAt
@@ -137,4 +106,5 @@ module _ (s t : List ℕ) (d : Declared) (l : Location) (v : Table) (rows : List
           full = ap length q ∙ z .2;
           next = λ y. ap (λ o. getD o 5 0) q ∙ z .1;
           ready = λ y. put .1;
+          refused = λ y. absurd (y (ap (λ o. getD o 0 0) q ∙ turned-zero out p full));
         }

@@ -4,22 +4,23 @@ use mathlib.Core.Bool.{true, false}
 use mathlib.Core.List.{List, [], _∷_}
 use mathlib.Core.Path.{_≡_}
 use lib.Dec.{eqb}
-use lib.ListN.{length, getD, set}
-use lib.Seq.{sets}
+use lib.ListN.{length, getD, set, replicate}
 use Rattle.ast.specs.declared.Location.{Location}
 use Rattle.ast.specs.declared.CompileError.{CompileError}
 use Rattle.ast.specs.Numbers.{kindFrom}
+use Rattle.ast.specs.declared.LocktimeOp.{LocktimeOp}
+use Rattle.ast.specs.declared.Signed.{Signed}
 use Rattle.ast.specs.declared.Target.{Target}
-use Rattle.ast.specs.declared.Checked.{Checked}
-use Rattle.ast.specs.declared.Checked.the-variants.{Ok, Err}
 use Rattle.ast.specs.Tree.{Declaration, Expression, fault, number}
-use Rattle.rules.specs.Result.{Result, ok, err, _>>=_}
+use Rattle.rules.specs.Result.{Result, ok, err, _>>=_, _>>_}
 use Rattle.rules.specs.Table.{Table, params, buildAll}
+use Rattle.rules.specs.Limits.{wait}
+use Rattle.rules.specs.Unused.{unusedAll}
 use Rattle.rules.specs.Walk.{Walked, examineAt}
 use Rattle.names.specs.Items.{ItemsAt, itemsDown}
 use Rattle.usage.specs.declared.NamePlace.{NamePlace}
 use Rattle.usage.specs.declared.Path.{Path}
-use Rattle.usage.specs.Path.{tableOf, WellFormed}
+use Rattle.usage.specs.Path.{tableOf, noPlace, WellFormed}
 use Rattle.analyze.specs.declared.Declared.{Declared}
 
 -- the path p: its row of places, its count of items, its taken set
@@ -35,18 +36,28 @@ tablesFrom s t d rows taken p (suc k) = tableOf s t (pathAt d rows taken p) ∷ 
 unfoldable pub tablesOf : List ℕ → List ℕ → Declared → List (List NamePlace) → List ℕ → List Table
 tablesOf s t d rows taken = tablesFrom s t d rows taken 0 (d .count)
 
+-- nothing is taken on any path
+unfoldable pub noneTaken : List ℕ
+noneTaken = replicate 32 0
+
+-- no places on any path
+unfoldable pub noRows : List (List NamePlace)
+noRows = replicate 32 (replicate 32 noPlace)
+
 -- a path that is used with the items of a declaration: `count` of them, the first at row `first`
 pub record PathReady (s t : List ℕ) (first count : ℕ) (p : Path) : Type 0 where
   pub formed : WellFormed s t p
   pub items : ItemsAt s t count first
   pub same : params (tableOf s t p) ≡ itemsDown s t first count
 
--- every path is
+-- every path of a declaration is, and those past the last declaration are empty
 pub record Ready (s t : List ℕ) (d : Declared) (rows : List (List NamePlace)) (taken : List ℕ) : Type 0 where
   pub few : d .count ≤ 32
   pub full : length rows ≡ 32
   pub taken-full : length taken ≡ 32
   pub paths : (p : ℕ) → p < d .count → PathReady s t (getD (d .firsts) p 0) (getD (d .counts) p 0) (pathAt d rows taken p)
+  pub no-places : (p : ℕ) → d .count ≤ p → getD rows p [] ≡ getD noRows p []
+  pub none-taken : (p : ℕ) → d .count ≤ p → getD taken p 0 ≡ 0
 
 -- the answer in numbers: 0 or the refusal's number, its location, the next row, the path in use
 unfoldable pub locationIn : List ℕ → Location
@@ -65,32 +76,39 @@ branchIn out = getD out 6 0
 unfoldable pub outcome : List Table → List ℕ → Result Walked
 outcome ts out = elim (eqb (getD out 0 0) 0) [ true ↦ ok (record { tables = ts; branch = branchIn out }) | false ↦ err (faultIn out) ]
 
--- a step of the walk: a rule's result; after a pass the next row is j, and every path can still be used
+-- numbers that say a refusal: no next row, no path in use
+unfoldable pub refusal : CompileError → List ℕ
+refusal x = number (x .kind) ∷ x .loc .start ∷ x .loc .end ∷ x .loc .line ∷ x .loc .column ∷ 0 ∷ 0 ∷ []
+
+-- nothing is left but the fault x
+pub record OnlyFault (x : CompileError) (rows : List (List NamePlace)) (taken out : List ℕ) : Type 0 where
+  pub no-places : rows ≡ noRows
+  pub none-taken : taken ≡ noneTaken
+  pub numbers : out ≡ refusal x
+
+-- a step of the walk: a rule's result; after a pass the next row is j, and every path can still be used; after a refusal nothing is left but the fault
 pub record Moved (s t : List ℕ) (d : Declared) (w : Result Walked) (j : ℕ) (rows : List (List NamePlace)) (taken out : List ℕ) : Type 0 where
   pub result : outcome (tablesOf s t d rows taken) out ≡ w
   pub full : length out ≡ 7
   pub next : getD out 0 0 ≡ 0 → nextIn out ≡ j
   pub ready : getD out 0 0 ≡ 0 → Ready s t d rows taken
+  pub refused : (getD out 0 0 ≡ 0 → ⊥) → OnlyFault (faultIn out) rows taken out
 
 -- a verify, return or condition on the path in use: its table is the one after the expression
 unfoldable pub examined : Target → Location → Expression → List Table → ℕ → Result Walked
 examined g l e ts n = examineAt g l e ts n >>= λ t. ok (record { tables = set ts n t; branch = n })
 
--- numbers that say a refusal, and a pass to a row
-unfoldable pub faulted : List ℕ → CompileError → List ℕ
-faulted out x = sets out 0 (number (x .kind) ∷ x .loc .start ∷ x .loc .end ∷ x .loc .line ∷ x .loc .column ∷ [])
+-- a wait: the tables stay as they are
+abbrev pub waited : Location → LocktimeOp → Signed → List Table → ℕ → Result Walked
+waited l o v ts n = wait l o v >> ok (record { tables = ts; branch = n })
 
+-- numbers that say a pass to a row
 unfoldable pub passed : List ℕ → ℕ → List ℕ
 passed out j = set (set out 0 0) 5 j
 
 -- a pass on another path
 unfoldable pub turned : List ℕ → ℕ → List ℕ
 turned out n = set (set out 0 0) 6 n
-
--- what a check says
-unfoldable pub settled : List ℕ → Checked → ℕ → List ℕ
-settled out Ok j = passed out j
-settled out (Err x) j = faulted out x
 
 -- the tables of all declarations, before the walk
 unfoldable pub started : List Declaration → Result Walked
@@ -99,3 +117,23 @@ started ds = buildAll ds >>= λ ts. ok (record { tables = ts; branch = 0 })
 -- the tables of all paths, or the refusal, as the numbers say
 unfoldable pub analyzed : List Table → List ℕ → Result (List Table)
 analyzed ts out = elim (eqb (getD out 0 0) 0) [ true ↦ ok ts | false ↦ err (faultIn out) ]
+
+-- after the statements: items left over
+abbrev pub finished : List Table → Result (List Table)
+finished ts = unusedAll ts >> ok ts
+
+-- numbers that say an acceptance
+unfoldable pub accepted : List ℕ
+accepted = replicate 7 0
+
+-- the numbers of a result
+unfoldable pub answered : Result (List Table) → List ℕ
+answered (ok ts) = accepted
+answered (err x) = refusal x
+
+-- the whole analysis: its result, and all seven numbers of it; after acceptance the paths past the last declaration are empty, after a refusal nothing is left but the fault
+pub record Analyzed (s t : List ℕ) (d : Declared) (w : Result (List Table)) (rows : List (List NamePlace)) (taken out : List ℕ) : Type 0 where
+  pub result : analyzed (tablesOf s t d rows taken) out ≡ w
+  pub numbers : out ≡ answered w
+  pub ready : getD out 0 0 ≡ 0 → Ready s t d rows taken
+  pub refused : (getD out 0 0 ≡ 0 → ⊥) → OnlyFault (faultIn out) rows taken out

@@ -6,13 +6,15 @@ ghost use Rattle.ast.specs.Tree.{Contract};
 ghost use Rattle.analyze.specs.Items.{DeclaredAs, Given};
 ghost use Rattle.analyze.specs.State.{Moved, branchIn, started};
 use crate::Declared;
-use crate::walk::put_fault;
+use crate::walk::clear_taken;
+use crate::walk::no_rows;
 use crate::walk::put_pass;
+use crate::walk::refuse;
 use nodes::Answer;
 use usage::NamePlace;
 use usage::build_symbol_table;
 
-// One table for each declaration, in order.
+// One table for each declaration, in order; the paths past the last of them are empty.
 pub fn build_tables(
     listing: &[u8],
     table: &[u32],
@@ -23,7 +25,8 @@ pub fn build_tables(
     requires { ⌜ Given (now listing) (now table) d × (length (now taken) ≡ 32) × (length (now out) ≡ 7) × (branchIn (now out) ≡ 0) ⌝ }
     ensures { λ r. ⌜ ((c : Contract) (n : ℕ) → DeclaredAs (now (listing .entry)) (now (table .entry)) d c n → Moved (now (listing .entry)) (now (table .entry)) d (started (c .declarations)) (d .block) r (now (taken .exit)) (now (out .exit))) ⌝ }
 {
-    let mut rows = [[NamePlace { row: 0, line: 0 }; 32]; 32];
+    clear_taken(taken);
+    let mut rows = no_rows();
     let firsts = d.firsts;
     let counts = d.counts;
     let count = d.count;
@@ -34,8 +37,7 @@ pub fn build_tables(
         let a = u.answer;
         match a {
             Answer::Fault(x) => {
-                put_fault(out, x);
-                return rows;
+                return refuse(taken, out, x);
             }
             Answer::Pass(_) => {
                 let path = u.path;

@@ -1,9 +1,10 @@
 // The statements of a contract, walked over its rows.
 ghost use mathlib.Core.Path.{_≡_};
-ghost use mathlib.Core.Bool.{true, false};
-ghost use Prim.Native.Nat.{ℕ, _+_, _<_, _≤_};
-ghost use lib.ListN.{length, getD};
-ghost use Rattle.ast.specs.Tree.{Expression, Statement, Block};
+ghost use mathlib.Core.List.{List};
+ghost use Prim.Native.Nat.{ℕ, _+_, _<_};
+ghost use lib.ListN.{length};
+ghost use Rattle.ast.specs.declared.ErrorKind.{ErrorKind};
+ghost use Rattle.ast.specs.Tree.{Expression, Statement, Block, fault};
 ghost use Rattle.listing.specs.declared.Line.{Line};
 ghost use Rattle.listing.specs.declared.StatementLine.{StatementLine};
 ghost use Rattle.rows.specs.Rows.{lineIn};
@@ -11,13 +12,15 @@ ghost use Rattle.reader.specs.Spells.{SpellsExpression, SpellsStatement, Spells
 ghost use Rattle.nodes.specs.Stands.{ExpressionAt, StatementAt, BlockAt};
 ghost use Rattle.rules.specs.Walk.{cross as crossOf, walkStatement, walk};
 ghost use Rattle.usage.specs.Path.{tableOf, WellFormed};
-ghost use Rattle.analyze.specs.State.{pathAt, tablesOf, Ready, Moved, nextIn, branchIn, examined, faulted, passed, turned, settled};
+ghost use Rattle.analyze.specs.State.{pathAt, tablesOf, noneTaken, noRows, refusal, OnlyFault, Ready, Moved, nextIn, branchIn, examined, waited, passed, turned};
 use crate::Declared;
 use crate::examine::examine;
 use ast::Checked;
 use ast::CompileError;
 use ast::ErrorKind;
 use ast::Location;
+use ast::LocktimeOp;
+use ast::Signed;
 use ast::numbers::error_number;
 use limits::check_wait;
 use listing::StatementLine;
@@ -28,9 +31,10 @@ use usage::NamePlace;
 use usage::Path;
 use usage::transfer_prefix_consumption;
 
-// A fault, in numbers.
-pub fn put_fault(out: &mut [u32; 7], x: CompileError)
-    ensures { λ _. ⌜ now (out .exit) ≡ faulted (now (out .entry)) x ⌝ }
+// The fault in numbers; no next row, no path in use.
+fn put_refusal(out: &mut [u32; 7], x: CompileError)
+    requires { ⌜ length (now out) ≡ 7 ⌝ }
+    ensures { λ _. ⌜ now (out .exit) ≡ refusal x ⌝ }
 {
     let loc = x.loc;
     let kind = x.kind;
@@ -39,6 +43,49 @@ pub fn put_fault(out: &mut [u32; 7], x: CompileError)
     out[2] = loc.end;
     out[3] = loc.line;
     out[4] = loc.column;
+    out[5] = 0;
+    out[6] = 0;
+}
+
+// Nothing is taken on any path.
+pub fn clear_taken(taken: &mut [u32; 32])
+    requires { ⌜ length (now taken) ≡ 32 ⌝ }
+    ensures { λ _. ⌜ now (taken .exit) ≡ noneTaken ⌝ }
+{
+    let mut p: usize = 0;
+    while p < 32 {
+        taken[p] = 0;
+        p += 1;
+    }
+}
+
+// No places on any path.
+pub fn no_rows() -> [[NamePlace; 32]; 32]
+    ensures { λ r. ⌜ r ≡ noRows ⌝ }
+{
+    [[NamePlace { row: 0, line: 0 }; 32]; 32]
+}
+
+// A refusal: nothing is left of the walk but the fault.
+pub fn refuse(taken: &mut [u32; 32], out: &mut [u32; 7], x: CompileError) -> [[NamePlace; 32]; 32]
+    requires { ⌜ (length (now taken) ≡ 32) × (length (now out) ≡ 7) ⌝ }
+    ensures { λ r. ⌜ OnlyFault x r (now (taken .exit)) (now (out .exit)) ⌝ }
+{
+    put_refusal(out, x);
+    clear_taken(taken);
+    no_rows()
+}
+
+// The refusal of a statement on a path that is not declared.
+fn refuse_path(loc: Location, taken: &mut [u32; 32], out: &mut [u32; 7]) -> [[NamePlace; 32]; 32]
+    requires { ⌜ (length (now taken) ≡ 32) × (length (now out) ≡ 7) ⌝ }
+    ensures { λ r. ⌜ OnlyFault (fault ErrorKind.DeclarationPathMismatch loc) r (now (taken .exit)) (now (out .exit)) ⌝ }
+{
+    let x = CompileError {
+        loc,
+        kind: ErrorKind::DeclarationPathMismatch,
+    };
+    refuse(taken, out, x)
 }
 
 // A pass to the next row, in numbers.
@@ -79,24 +126,14 @@ fn examine_at(
 {
     let branch = out[6];
     if d.count <= branch {
-        put_fault(
-            out,
-            CompileError {
-                loc,
-                kind: ErrorKind::DeclarationPathMismatch,
-            },
-        );
-        return rows;
+        return refuse_path(loc, taken, out);
     }
     let p = branch as usize;
     let path = path_at(d, rows, taken, p);
     let u = examine(listing, table, d, p, i as usize, path);
     let a = u.answer;
     match a {
-        Answer::Fault(x) => {
-            put_fault(out, x);
-            rows
-        }
+        Answer::Fault(x) => refuse(taken, out, x),
         Answer::Pass(next) => {
             put_pass(out, (next % 4294967296) as u32);
             let after = u.path;
@@ -126,35 +163,18 @@ fn cross(
     let branch = out[6];
     let count = d.count;
     if count <= branch {
-        put_fault(
-            out,
-            CompileError {
-                loc,
-                kind: ErrorKind::DeclarationPathMismatch,
-            },
-        );
-        return rows;
+        return refuse_path(loc, taken, out);
     }
     let next = branch + 1;
     if count <= next {
-        put_fault(
-            out,
-            CompileError {
-                loc,
-                kind: ErrorKind::DeclarationPathMismatch,
-            },
-        );
-        return rows;
+        return refuse_path(loc, taken, out);
     }
     let p = next as usize;
     let to = path_at(d, rows, taken, p);
     let u = transfer_prefix_consumption(listing, table, loc, from, to);
     let a = u.answer;
     match a {
-        Answer::Fault(x) => {
-            put_fault(out, x);
-            rows
-        }
+        Answer::Fault(x) => refuse(taken, out, x),
         Answer::Pass(_) => {
             put_branch(out, next);
             let after = u.path;
@@ -175,13 +195,26 @@ pub fn put_branch(out: &mut [u32; 7], branch: u32)
     out[6] = branch;
 }
 
-// What a check says, in numbers: a pass to the next row, or the fault.
-pub fn put_checked(out: &mut [u32; 7], c: Checked, next: u32)
-    ensures { λ _. ⌜ now (out .exit) ≡ settled (now (out .entry)) c next ⌝ }
+// A wait: on to the next row, or the refusal.
+fn analyze_wait(
+    loc: Location,
+    op: LocktimeOp,
+    v: Signed,
+    next: u32,
+    rows: [[NamePlace; 32]; 32],
+    taken: &mut [u32; 32],
+    out: &mut [u32; 7],
+) -> [[NamePlace; 32]; 32]
+    requires { ⌜ (length (now taken) ≡ 32) × (length (now out) ≡ 7) ⌝ }
+    ensures { λ r. ⌜ ((s t : List ℕ) (d : Declared) → Ready s t d rows (now (taken .entry)) → Moved s t d (waited loc op v (tablesOf s t d rows (now (taken .entry))) (branchIn (now (out .entry)))) next r (now (taken .exit)) (now (out .exit))) ⌝ }
 {
+    let c = check_wait(loc, op, v);
     match c {
-        Checked::Ok => put_pass(out, next),
-        Checked::Err(x) => put_fault(out, x),
+        Checked::Err(x) => refuse(taken, out, x),
+        Checked::Ok => {
+            put_pass(out, next);
+            rows
+        }
     }
 }
 
@@ -231,40 +264,17 @@ fn analyze_statement(
     let line = statement_at(table, i as usize);
     match line {
         StatementLine::LocktimeStatement(w, op, v) => {
-            put_checked(out, check_wait(w, op, v), i + 1);
-            rows
+            analyze_wait(w, op, v, i + 1, rows, taken, out)
         }
-        StatementLine::VerifyStatement(w) => examine_at(
-            listing,
-            table,
-            d,
-            w,
-            i + 1,
-            rows,
-            taken,
-            out,
-        ),
-        StatementLine::ExpressionStatement(w) => examine_at(
-            listing,
-            table,
-            d,
-            w,
-            i + 1,
-            rows,
-            taken,
-            out,
-        ),
-        StatementLine::IfStatement(w, e) => analyze_if(
-            listing,
-            table,
-            d,
-            w,
-            e,
-            i,
-            rows,
-            taken,
-            out,
-        ),
+        StatementLine::VerifyStatement(w) => {
+            examine_at(listing, table, d, w, i + 1, rows, taken, out)
+        }
+        StatementLine::ExpressionStatement(w) => {
+            examine_at(listing, table, d, w, i + 1, rows, taken, out)
+        }
+        StatementLine::IfStatement(w, e) => {
+            analyze_if(listing, table, d, w, e, i, rows, taken, out)
+        }
     }
 }
 

@@ -44,7 +44,7 @@ use Rattle.examiner.specs.Lent.{workAfter}
 use Rattle.examiner.specs.InOrder.{InOrder}
 use Rattle.examiner.proofs.Demand3.{examined, demand3}
 
-refused≢rows : {x : CompileError} {n : ℕ} → Refused x ≡ Rows n → ⊥
+pub refused≢rows : {x : CompileError} {n : ℕ} → Refused x ≡ Rows n → ⊥
 refused≢rows h = let z : _≡_ {A = ℕ} 0 1 = cc in omega arith
 
 -- a refusal of the reading is Check's, and leaves work as Check does

@@ -18,19 +18,11 @@ check-shape-requires c κs =
 enum-known-shape : tie.Need-enum-known-shape
 enum-known-shape c = search needs
 
-put-fault-requires : tie.Need-put-fault-requires
-put-fault-requires c κs = search needs
-
-no-rows-requires : tie.Need-no-rows-requires
-no-rows-requires c κs = search needs
+refuse-requires : tie.Need-refuse-requires
+refuse-requires c κs = (c .before .before .before .before .before .before .before .before .pre .2, c .before .before .before .before .before .before .before .before .pre .3)
 
 returns : tie.Need-returns
-returns c =
-    let a = c .before .before .before .before .before .before .before .before .before .args in
-    let pre = c .before .before .before .before .before .before .before .before .before .pre in
-    λ x sp.
-    let D = pre .1 x sp in
-    stops-at-shape D (a .out .now) _ (pre .3) (c .before .before .before .before .before .before .check-shape .ensures _ x _ D) (c .before .before .before .before .shape .given .1) (c .before .put-fault .ensures) _
+returns c = λ x sp. let D = c .before .before .before .before .before .before .before .before .before .pre .1 x sp in stops-at-shape D (c .before .before .before .before .before .before .check-shape .ensures _ x _ D) (c .before .before .before .before .shape .given .1) (c .refuse .ensures)
 
 enum-told : tie.Need-enum-told
 enum-told c = search needs
@@ -52,7 +44,6 @@ element-copy-out-if1 c = search needs
 
 returns-2 : tie.Need-returns-2
 returns-2 c =
-    let a = c .before .before .before .before .before .before .before .before .before .before .before .before .args in
     let pre = c .before .before .before .before .before .before .before .before .before .before .before .before .pre in
     λ x sp.
     let D = pre .1 x sp in
@@ -74,7 +65,6 @@ element-copy-out-if2 c = search needs
 
 returns-3 : tie.Need-returns-3
 returns-3 c =
-    let a = c .before .before .before .before .before .before .before .before .before .before .before .before .before .before .before .before .before .args in
     let pre = c .before .before .before .before .before .before .before .before .before .before .before .before .before .before .before .before .before .pre in
     λ x sp.
     let D = pre .1 x sp in
@@ -85,29 +75,24 @@ returns-3 c =
     let m₂ = c .before .before .analyze-block .ensures (x .block) _ (D .block) in
     stops-at-walk D shape passes m₁ z₁ m₂ (c .if2 .taken)
 
-check-unused-requires : tie.Need-check-unused-requires
-check-unused-requires c κs =
-    let pre = c .before .before .before .before .before .before .before .before .before .before .before .before .before .before .before .before .before .before .pre in
-    let C = pre .0 in
-    let g = given-at C (pre .1 (C .contract) (C .spells)) in
-    let m₂ = c .before .before .before .analyze-block .ensures _ _ (g .declared .block) in
-    m₂ .ready (c .before .if2 .left)
-
-put-checked-requires : tie.Need-put-checked-requires
-put-checked-requires c κs = search needs
+finish-requires : tie.Need-finish-requires
+finish-requires c κs =
+    let C = c .before .before .before .before .before .before .before .before .before .before .before .before .before .before .before .before .before .before .before .pre .0 in
+    let g = given-at C (c .before .before .before .before .before .before .before .before .before .before .before .before .before .before .before .before .before .before .before .pre .1 (C .contract) (C .spells)) in
+    let m₂ = c .before .before .before .before .analyze-block .ensures _ _ (g .declared .block) in
+    (m₂ .ready (c .before .before .if2 .left), m₂ .full)
 
 returns-4 : tie.Need-returns-4
 returns-4 c =
-    let a = c .before .before .before .before .before .before .before .before .before .before .before .before .before .before .before .before .before .before .before .before .before .args in
-    let pre = c .before .before .before .before .before .before .before .before .before .before .before .before .before .before .before .before .before .before .before .before .before .pre in
+    let pre = c .before .before .before .before .before .before .before .before .before .before .before .before .before .before .before .before .before .before .before .before .pre in
     λ x sp.
     let D = pre .1 x sp in
-    let shape = c .before .before .before .before .before .before .before .before .before .before .before .before .before .before .before .before .before .before .check-shape .ensures _ x _ D in
-    let passes = c .before .before .before .before .before .before .before .before .before .before .before .before .before .before .before .before .enum-told .given .1 in
-    let m₁ = c .before .before .before .before .before .before .before .before .before .before .before .build-tables .ensures x _ D in
-    let z₁ = c .before .before .before .before .before .before .before .before .before .if1 .left in
-    let m₂ = c .before .before .before .before .before .before .analyze-block .ensures (x .block) _ (D .block) in
-    ends D shape passes m₁ z₁ m₂ (c .before .before .before .before .if2 .left) _ _ _ (c .before .before .check-unused .ensures) (c .put-checked .ensures)
+    let shape = c .before .before .before .before .before .before .before .before .before .before .before .before .before .before .before .before .before .check-shape .ensures _ x _ D in
+    let passes = c .before .before .before .before .before .before .before .before .before .before .before .before .before .before .before .enum-told .given .1 in
+    let m₁ = c .before .before .before .before .before .before .before .before .before .before .build-tables .ensures x _ D in
+    let z₁ = c .before .before .before .before .before .before .before .before .if1 .left in
+    let m₂ = c .before .before .before .before .before .analyze-block .ensures (x .block) _ (D .block) in
+    ends D shape passes m₁ z₁ m₂ (c .before .before .before .if2 .left) (c .finish .ensures)
 
 pub analyze-spec : {M : Type 1} → statement M
 analyze-spec =
@@ -115,8 +100,7 @@ analyze-spec =
     (tie.spec
     check-shape-requires
     enum-known-shape
-    put-fault-requires
-    no-rows-requires
+    refuse-requires
     returns
     enum-told
     put-branch-requires
@@ -126,6 +110,5 @@ analyze-spec =
     analyze-block-requires
     element-copy-out-if2
     returns-3
-    check-unused-requires
-    put-checked-requires
+    finish-requires
     returns-4)

@@ -18,7 +18,7 @@ checked-in-requires c κs = search needs
 
 -- src/lib.rt:50:1
 returns : tie.Need-returns
-returns c = λ x sp. c .checked-in .ensures _ ∙ ap answer (c .before .before .analyze .ensures x sp)
+returns c = λ x sp. c .checked-in .ensures _ ∙ ap answer (c .before .before .analyze .ensures x sp .result)
 
 pub analyze-rows-spec : {M : Type 1} → statement M
 analyze-rows-spec = tie.close (tie.spec analyze-requires checked-in-requires returns)

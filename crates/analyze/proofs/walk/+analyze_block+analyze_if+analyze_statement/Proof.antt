@@ -17,7 +17,7 @@ use Rattle.nodes.specs.Stands.{BlockAt}
 use Rattle.nodes.proofs.Laws.{below, statement-is, block-is, statement-holds, block-holds}
 use Rattle.rules.specs.Walk.{walk}
 use Rattle.analyze.specs.State.{tablesOf, Ready, branchIn}
-use Rattle.analyze.proofs.Statements.{moved-stop, moved-on, moved-wait, moved-end, verify-moves, return-moves, at-next, operand-stands, statement-below, Going, first, head-within, going-err, going-on, going-end, if-parts, if-holds, conditioned, block-stops, if-only, else-parts, cross-stops, if-else, crossed-from}
+use Rattle.analyze.proofs.Statements.{moved-stop, moved-on, moved-end, wait-moves, verify-moves, return-moves, at-next, operand-stands, statement-below, Going, first, head-within, going-err, going-on, going-end, if-parts, if-holds, conditioned, block-stops, if-only, else-parts, cross-stops, if-else, crossed-from}
 use Prim.Native.Nat.{ℕ, _<_}
 use borrow.Fn.Kinds.{In}
 use borrow.Fn.PlainCycle.{Measures, is, falls, and}
@@ -30,11 +30,10 @@ use Rattle.analyze.proofs.walk.+analyze_block+analyze_if+analyze_statem
 use Rattle.analyze.proofs.walk.analyze_statement.Reads as analyze-statement
 use Rattle.analyze.proofs.walk.analyze_statement.Kinds as analyze-statement-kinds
 use Rattle.analyze.proofs.walk.+analyze_block+analyze_if+analyze_statement.Lts-analyze_statement as analyze-statement-lts
-use Rattle.limits.proofs.check_wait.Reads as check-wait-reads
+use Rattle.analyze.proofs.walk.analyze_wait.Reads as analyze-wait-reads
 use Rattle.analyze.proofs.walk.cross.Reads as cross-reads
 use Rattle.analyze.proofs.walk.examine_at.Reads as examine-at-reads
 use Rattle.analyze.proofs.walk.path_at.Reads as path-at-reads
-use Rattle.analyze.proofs.walk.put_checked.Reads as put-checked-reads
 use Rattle.analyze.proofs.walk.put_pass.Reads as put-pass-reads
 use Rattle.nodes.proofs.block_at.Reads as block-at-reads
 use Rattle.nodes.proofs.statement_at.Reads as statement-at-reads
@@ -609,10 +608,8 @@ analyze-statement-statement-at-requires :
     (t : ℕ) → analyze-statement-lts.Need-statement-at-requires (
       statement-at-reads.Asked,
       statement-at-reads.Learnt,
-      check-wait-reads.Asked,
-      check-wait-reads.Learnt,
-      put-checked-reads.Asked,
-      put-checked-reads.Learnt,
+      analyze-wait-reads.Asked,
+      analyze-wait-reads.Learnt,
       examine-at-reads.Asked,
       examine-at-reads.Learnt,
       analyze-if-below t,
@@ -623,10 +620,8 @@ analyze-statement-statement-at-requires t c κs = statement-holds (c .before .be
 analyze-statement-enum-known-line : (t : ℕ) → analyze-statement-lts.Need-enum-known-line (
   statement-at-reads.Asked,
   statement-at-reads.Learnt,
-  check-wait-reads.Asked,
-  check-wait-reads.Learnt,
-  put-checked-reads.Asked,
-  put-checked-reads.Learnt,
+  analyze-wait-reads.Asked,
+  analyze-wait-reads.Learnt,
   examine-at-reads.Asked,
   examine-at-reads.Learnt,
   analyze-if-below t,
@@ -634,57 +629,39 @@ analyze-statement-enum-known-line : (t : ℕ) → analyze-statement-lts.Need-enu
 ) (analyze-statement-at t) analyze-statement.Post
 analyze-statement-enum-known-line t c = search needs
 
-analyze-statement-check-wait-requires : (t : ℕ) → analyze-statement-lts.Need-check-wait-requires (
+analyze-statement-add-analyze-wait : (t : ℕ) → analyze-statement-lts.Need-add-analyze-wait (
   statement-at-reads.Asked,
   statement-at-reads.Learnt,
-  check-wait-reads.Asked,
-  check-wait-reads.Learnt,
-  put-checked-reads.Asked,
-  put-checked-reads.Learnt,
+  analyze-wait-reads.Asked,
+  analyze-wait-reads.Learnt,
   examine-at-reads.Asked,
   examine-at-reads.Learnt,
   analyze-if-below t,
   analyze-if.Post,
 ) (analyze-statement-at t) analyze-statement.Post
-analyze-statement-check-wait-requires t c κs = search needs
-
-analyze-statement-add-put-checked : (t : ℕ) → analyze-statement-lts.Need-add-put-checked (
-  statement-at-reads.Asked,
-  statement-at-reads.Learnt,
-  check-wait-reads.Asked,
-  check-wait-reads.Learnt,
-  put-checked-reads.Asked,
-  put-checked-reads.Learnt,
-  examine-at-reads.Asked,
-  examine-at-reads.Learnt,
-  analyze-if-below t,
-  analyze-if.Post,
-) (analyze-statement-at t) analyze-statement.Post
-analyze-statement-add-put-checked t c =
-    let st = c .before .before .before .before .before .before .before .before .pre .1 .0 in
+analyze-statement-add-analyze-wait t c =
+    let st = c .before .before .before .before .before .before .pre .1 .0 in
     omega (arith, statement-on _ _ (st .spells), st .within, st .rows .few)
 
-analyze-statement-put-checked-requires : (t : ℕ) → analyze-statement-lts.Need-put-checked-requires (
+analyze-statement-analyze-wait-requires : (t : ℕ) → analyze-statement-lts.Need-analyze-wait-requires (
   statement-at-reads.Asked,
   statement-at-reads.Learnt,
-  check-wait-reads.Asked,
-  check-wait-reads.Learnt,
-  put-checked-reads.Asked,
-  put-checked-reads.Learnt,
+  analyze-wait-reads.Asked,
+  analyze-wait-reads.Learnt,
   examine-at-reads.Asked,
   examine-at-reads.Learnt,
   analyze-if-below t,
   analyze-if.Post,
 ) (analyze-statement-at t) analyze-statement.Post
-analyze-statement-put-checked-requires t c κs = search needs
+analyze-statement-analyze-wait-requires t c κs =
+    let pre = c .before .before .before .before .before .before .before .before .pre .1 in
+    (pre .1 .taken-full, pre .2)
 
 analyze-statement-enum-known-line-2 : (t : ℕ) → analyze-statement-lts.Need-enum-known-line-2 (
   statement-at-reads.Asked,
   statement-at-reads.Learnt,
-  check-wait-reads.Asked,
-  check-wait-reads.Learnt,
-  put-checked-reads.Asked,
-  put-checked-reads.Learnt,
+  analyze-wait-reads.Asked,
+  analyze-wait-reads.Learnt,
   examine-at-reads.Asked,
   examine-at-reads.Learnt,
   analyze-if-below t,
@@ -695,10 +672,8 @@ analyze-statement-enum-known-line-2 t c = search needs
 analyze-statement-add-examine-at : (t : ℕ) → analyze-statement-lts.Need-add-examine-at (
   statement-at-reads.Asked,
   statement-at-reads.Learnt,
-  check-wait-reads.Asked,
-  check-wait-reads.Learnt,
-  put-checked-reads.Asked,
-  put-checked-reads.Learnt,
+  analyze-wait-reads.Asked,
+  analyze-wait-reads.Learnt,
   examine-at-reads.Asked,
   examine-at-reads.Learnt,
   analyze-if-below t,
@@ -711,10 +686,8 @@ analyze-statement-add-examine-at t c =
 analyze-statement-examine-at-requires : (t : ℕ) → analyze-statement-lts.Need-examine-at-requires (
   statement-at-reads.Asked,
   statement-at-reads.Learnt,
-  check-wait-reads.Asked,
-  check-wait-reads.Learnt,
-  put-checked-reads.Asked,
-  put-checked-reads.Learnt,
+  analyze-wait-reads.Asked,
+  analyze-wait-reads.Learnt,
   examine-at-reads.Asked,
   examine-at-reads.Learnt,
   analyze-if-below t,
@@ -729,10 +702,8 @@ analyze-statement-examine-at-requires t c κs =
 analyze-statement-enum-known-line-3 : (t : ℕ) → analyze-statement-lts.Need-enum-known-line-3 (
   statement-at-reads.Asked,
   statement-at-reads.Learnt,
-  check-wait-reads.Asked,
-  check-wait-reads.Learnt,
-  put-checked-reads.Asked,
-  put-checked-reads.Learnt,
+  analyze-wait-reads.Asked,
+  analyze-wait-reads.Learnt,
   examine-at-reads.Asked,
   examine-at-reads.Learnt,
   analyze-if-below t,
@@ -743,10 +714,8 @@ analyze-statement-enum-known-line-3 t c = search needs
 analyze-statement-add-examine-at-2 : (t : ℕ) → analyze-statement-lts.Need-add-examine-at-2 (
   statement-at-reads.Asked,
   statement-at-reads.Learnt,
-  check-wait-reads.Asked,
-  check-wait-reads.Learnt,
-  put-checked-reads.Asked,
-  put-checked-reads.Learnt,
+  analyze-wait-reads.Asked,
+  analyze-wait-reads.Learnt,
   examine-at-reads.Asked,
   examine-at-reads.Learnt,
   analyze-if-below t,
@@ -760,10 +729,8 @@ analyze-statement-examine-at-requires-2 :
     (t : ℕ) → analyze-statement-lts.Need-examine-at-requires-2 (
       statement-at-reads.Asked,
       statement-at-reads.Learnt,
-      check-wait-reads.Asked,
-      check-wait-reads.Learnt,
-      put-checked-reads.Asked,
-      put-checked-reads.Learnt,
+      analyze-wait-reads.Asked,
+      analyze-wait-reads.Learnt,
       examine-at-reads.Asked,
       examine-at-reads.Learnt,
       analyze-if-below t,
@@ -778,10 +745,8 @@ analyze-statement-examine-at-requires-2 t c κs =
 analyze-statement-enum-known-line-4 : (t : ℕ) → analyze-statement-lts.Need-enum-known-line-4 (
   statement-at-reads.Asked,
   statement-at-reads.Learnt,
-  check-wait-reads.Asked,
-  check-wait-reads.Learnt,
-  put-checked-reads.Asked,
-  put-checked-reads.Learnt,
+  analyze-wait-reads.Asked,
+  analyze-wait-reads.Learnt,
   examine-at-reads.Asked,
   examine-at-reads.Learnt,
   analyze-if-below t,
@@ -792,10 +757,8 @@ analyze-statement-enum-known-line-4 t c = search needs
 analyze-statement-analyze-if-requires : (t : ℕ) → analyze-statement-lts.Need-analyze-if-requires (
   statement-at-reads.Asked,
   statement-at-reads.Learnt,
-  check-wait-reads.Asked,
-  check-wait-reads.Learnt,
-  put-checked-reads.Asked,
-  put-checked-reads.Learnt,
+  analyze-wait-reads.Asked,
+  analyze-wait-reads.Learnt,
   examine-at-reads.Asked,
   examine-at-reads.Learnt,
   analyze-if-below t,
@@ -809,10 +772,8 @@ analyze-statement-analyze-if-requires t c κs =
 analyze-statement-returns : (t : ℕ) → analyze-statement-lts.Need-returns (
   statement-at-reads.Asked,
   statement-at-reads.Learnt,
-  check-wait-reads.Asked,
-  check-wait-reads.Learnt,
-  put-checked-reads.Asked,
-  put-checked-reads.Learnt,
+  analyze-wait-reads.Asked,
+  analyze-wait-reads.Learnt,
   examine-at-reads.Asked,
   examine-at-reads.Learnt,
   analyze-if-below t,
@@ -823,15 +784,13 @@ analyze-statement-returns t c =
     let pre = c .before .before .before .before .before .before .before .before .before .pre .1 in
     λ x j sp.
     let f = statement-is sp (c .before .before .before .before .before .before .statement-at .ensures ∙ ap Line.Statement (c .before .before .before .before .line .given .1)) in
-    moved-wait (a .d) (a .rows) (a .taken .now) (a .out .now) (pre .2) (pre .1) (f .0) (f .1) _ _ (c .before .check-wait .ensures) (c .put-checked .ensures)
+    wait-moves _ _ _ _ _ (f .0) (f .1) (c .analyze-wait .ensures _ _ (a .d) (pre .1))
 
 analyze-statement-returns-2 : (t : ℕ) → analyze-statement-lts.Need-returns-2 (
   statement-at-reads.Asked,
   statement-at-reads.Learnt,
-  check-wait-reads.Asked,
-  check-wait-reads.Learnt,
-  put-checked-reads.Asked,
-  put-checked-reads.Learnt,
+  analyze-wait-reads.Asked,
+  analyze-wait-reads.Learnt,
   examine-at-reads.Asked,
   examine-at-reads.Learnt,
   analyze-if-below t,
@@ -845,10 +804,8 @@ analyze-statement-returns-2 t c =
 analyze-statement-returns-3 : (t : ℕ) → analyze-statement-lts.Need-returns-3 (
   statement-at-reads.Asked,
   statement-at-reads.Learnt,
-  check-wait-reads.Asked,
-  check-wait-reads.Learnt,
-  put-checked-reads.Asked,
-  put-checked-reads.Learnt,
+  analyze-wait-reads.Asked,
+  analyze-wait-reads.Learnt,
   examine-at-reads.Asked,
   examine-at-reads.Learnt,
   analyze-if-below t,
@@ -862,10 +819,8 @@ analyze-statement-returns-3 t c =
 analyze-statement-returns-4 : (t : ℕ) → analyze-statement-lts.Need-returns-4 (
   statement-at-reads.Asked,
   statement-at-reads.Learnt,
-  check-wait-reads.Asked,
-  check-wait-reads.Learnt,
-  put-checked-reads.Asked,
-  put-checked-reads.Learnt,
+  analyze-wait-reads.Asked,
+  analyze-wait-reads.Learnt,
   examine-at-reads.Asked,
   examine-at-reads.Learnt,
   analyze-if-below t,
@@ -932,10 +887,8 @@ pub +analyze-block+analyze-if+analyze-statement-spec : {M : Type 1} → statemen
     λ t. analyze-statement-lts.spec (
       statement-at-reads.Asked,
       statement-at-reads.Learnt,
-      check-wait-reads.Asked,
-      check-wait-reads.Learnt,
-      put-checked-reads.Asked,
-      put-checked-reads.Learnt,
+      analyze-wait-reads.Asked,
+      analyze-wait-reads.Learnt,
       examine-at-reads.Asked,
       examine-at-reads.Learnt,
       analyze-if-below t,
@@ -945,9 +898,8 @@ pub +analyze-block+analyze-if+analyze-statement-spec : {M : Type 1} → statemen
     analyze-statement.Post
     (analyze-statement-statement-at-requires t)
     (analyze-statement-enum-known-line t)
-    (analyze-statement-check-wait-requires t)
-    (analyze-statement-add-put-checked t)
-    (analyze-statement-put-checked-requires t)
+    (analyze-statement-add-analyze-wait t)
+    (analyze-statement-analyze-wait-requires t)
     (analyze-statement-enum-known-line-2 t)
     (analyze-statement-add-examine-at t)
     (analyze-statement-examine-at-requires t)

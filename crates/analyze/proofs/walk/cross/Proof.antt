@@ -10,30 +10,30 @@ use Rattle.analyze.proofs.walk.cross.Tie as tie
 element-copy-out-branch : tie.Need-element-copy-out-branch
 element-copy-out-branch c = search needs
 
-put-fault-requires : tie.Need-put-fault-requires
-put-fault-requires c κs = search needs
+refuse-path-requires : tie.Need-refuse-path-requires
+refuse-path-requires c κs = search needs
 
 returns : tie.Need-returns
 returns c =
-    let a = c .before .before .before .before .before .before .args in
-    let s = a .listing .now in
-    let t = a .table .now in
-    let pre = c .before .before .before .before .before .before .pre in
-    crossed-past s t (a .d) (a .loc) (tableOf s t (a .from)) (a .rows) (a .taken .now) (a .out .now) (pre .2) _ (omega (arith, c .before .before .if1 .taken)) (c .put-fault .ensures)
-
-add-next : tie.Need-add-next
-add-next c = search needs
-
-put-fault-requires-2 : tie.Need-put-fault-requires-2
-put-fault-requires-2 c κs = search needs
-
-returns-2 : tie.Need-returns-2
-returns-2 c =
     let a = c .before .before .before .before .before .before .before .args in
     let s = a .listing .now in
     let t = a .table .now in
     let pre = c .before .before .before .before .before .before .before .pre in
-    crossed-past s t (a .d) (a .loc) (tableOf s t (a .from)) (a .rows) (a .taken .now) (a .out .now) (pre .2) _ (c .before .before .if2 .taken) (c .put-fault2 .ensures)
+    crossed-past s t (a .d) (a .loc) (tableOf s t (a .from)) (a .rows) (a .taken .now) (a .out .now) (pre .2) (omega (arith, c .before .before .before .if1 .taken)) (c .refuse-path .ensures)
+
+add-next : tie.Need-add-next
+add-next c = search needs
+
+refuse-path-requires-2 : tie.Need-refuse-path-requires-2
+refuse-path-requires-2 c κs = search needs
+
+returns-2 : tie.Need-returns-2
+returns-2 c =
+    let a = c .before .before .before .before .before .before .before .before .args in
+    let s = a .listing .now in
+    let t = a .table .now in
+    let pre = c .before .before .before .before .before .before .before .before .pre in
+    crossed-past s t (a .d) (a .loc) (tableOf s t (a .from)) (a .rows) (a .taken .now) (a .out .now) (pre .2) (c .before .before .before .if2 .taken) (c .refuse-path2 .ensures)
 
 cast-p : tie.Need-cast-p
 cast-p c = search needs
@@ -49,8 +49,10 @@ transfer-prefix-consumption-requires c κs =
 enum-known-a : tie.Need-enum-known-a
 enum-known-a c = search needs
 
-put-fault-requires-3 : tie.Need-put-fault-requires-3
-put-fault-requires-3 c κs = search needs
+refuse-requires : tie.Need-refuse-requires
+refuse-requires c κs =
+    let pre = c .before .before .before .before .before .before .before .before .before .before .before .before .before .pre in
+    (pre .1 .taken-full, pre .2)
 
 enum-told : tie.Need-enum-told
 enum-told c = search needs
@@ -72,14 +74,14 @@ element-write-taken c = search needs
 
 returns-3 : tie.Need-returns-3
 returns-3 c =
-    let a = c .before .before .before .before .before .before .before .before .before .before .before .before .before .args in
+    let a = c .before .before .before .before .before .before .before .before .before .before .before .before .before .before .args in
     let s = a .listing .now in
     let t = a .table .now in
-    let pre = c .before .before .before .before .before .before .before .before .before .before .before .before .before .pre in
+    let pre = c .before .before .before .before .before .before .before .before .before .before .before .before .before .before .pre in
     let v = tableOf s t (a .from) in
-    let u = c .before .before .before .before .before .transfer-prefix-consumption .result in
-    let w = subst (λ p. Walked s t p (transfer (a .loc) v (tableOf s t p)) 0 u) (c .before .before .before .before .before .before .path-at .ensures) (c .before .before .before .before .before .transfer-prefix-consumption .ensures) in
-    crossed-fault s t (a .d) (a .loc) (tableOf s t (a .from)) (a .rows) (a .taken .now) (a .out .now) (pre .2) (c .before .before .before .before .before .before .before .before .if2 .left) u w _ _ (c .before .before .before .a .given .1) (c .put-fault3 .ensures)
+    let u = c .before .before .before .before .before .before .transfer-prefix-consumption .result in
+    let w = subst (λ p. Walked s t p (transfer (a .loc) v (tableOf s t p)) 0 u) (c .before .before .before .before .before .before .before .path-at .ensures) (c .before .before .before .before .before .before .transfer-prefix-consumption .ensures) in
+    crossed-fault s t (a .d) (a .loc) (tableOf s t (a .from)) (a .rows) (a .taken .now) (a .out .now) (pre .2) (c .before .before .before .before .before .before .before .before .before .if2 .left) u w (c .before .before .before .before .a .given .1) (c .refuse .ensures)
 
 returns-4 : tie.Need-returns-4
 returns-4 c =
@@ -97,16 +99,16 @@ cross-spec =
     tie.close
     (tie.spec
     element-copy-out-branch
-    put-fault-requires
+    refuse-path-requires
     returns
     add-next
-    put-fault-requires-2
+    refuse-path-requires-2
     returns-2
     cast-p
     path-at-requires
     transfer-prefix-consumption-requires
     enum-known-a
-    put-fault-requires-3
+    refuse-requires
     enum-told
     put-branch-requires
     mul-held

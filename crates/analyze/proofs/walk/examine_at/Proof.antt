@@ -10,13 +10,13 @@ use Rattle.analyze.proofs.walk.examine_at.Tie as tie
 element-copy-out-branch : tie.Need-element-copy-out-branch
 element-copy-out-branch c = search needs
 
-put-fault-requires : tie.Need-put-fault-requires
-put-fault-requires c κs = search needs
+refuse-path-requires : tie.Need-refuse-path-requires
+refuse-path-requires c κs = search needs
 
 returns : tie.Need-returns
 returns c =
-    let a = c .before .before .before .before .before .before .before .args in
-    λ e j sp. moved-past (a .listing .now) (a .table .now) (a .d) (a .loc) e (a .rows) (a .taken .now) (a .out .now) (c .before .before .before .before .before .before .before .pre .2) j _ (c .before .before .if1 .taken) (c .put-fault .ensures)
+    let a = c .before .before .before .before .before .before .before .before .args in
+    λ e j sp. moved-past (a .listing .now) (a .table .now) (a .d) (a .loc) e (a .rows) (a .taken .now) (a .out .now) (c .before .before .before .before .before .before .before .before .pre .2) j (c .before .before .before .if1 .taken) (c .refuse-path .ensures)
 
 cast-p : tie.Need-cast-p
 cast-p c = search needs
@@ -32,8 +32,10 @@ examine-requires c κs =
 enum-known-a : tie.Need-enum-known-a
 enum-known-a c = search needs
 
-put-fault-requires-2 : tie.Need-put-fault-requires-2
-put-fault-requires-2 c κs = search needs
+refuse-requires : tie.Need-refuse-requires
+refuse-requires c κs =
+    let pre = c .before .before .before .before .before .before .before .before .before .before .before .before .before .pre in
+    (pre .1 .taken-full, pre .2)
 
 enum-known-a-2 : tie.Need-enum-known-a-2
 enum-known-a-2 c = search needs
@@ -58,12 +60,12 @@ element-write-taken c = search needs
 
 returns-2 : tie.Need-returns-2
 returns-2 c =
-    let a = c .before .before .before .before .before .before .before .before .before .before .before .before .before .args in
+    let a = c .before .before .before .before .before .before .before .before .before .before .before .before .before .before .args in
     let s = a .listing .now in
     let t = a .table .now in
     λ e j sp.
-    let w = subst (λ p. Walked s t p (examine (a .d .target) e (tableOf s t p)) j (c .before .before .before .before .before .examine .result)) (c .before .before .before .before .before .before .path-at .ensures) (c .before .before .before .before .before .examine .ensures e j sp) in
-    moved-fault s t (a .d) (a .loc) e (a .rows) (a .taken .now) (a .out .now) (c .before .before .before .before .before .before .before .before .before .before .before .before .before .pre .2) (c .before .before .before .before .before .before .before .before .if1 .left) j (c .before .before .before .before .before .examine .result) w _ _ (c .before .before .before .a .given .1) (c .put-fault2 .ensures)
+    let w = subst (λ p. Walked s t p (examine (a .d .target) e (tableOf s t p)) j (c .before .before .before .before .before .before .examine .result)) (c .before .before .before .before .before .before .before .path-at .ensures) (c .before .before .before .before .before .before .examine .ensures e j sp) in
+    moved-fault s t (a .d) (a .loc) e (a .rows) (a .taken .now) (a .out .now) (c .before .before .before .before .before .before .before .before .before .before .before .before .before .before .pre .2) (c .before .before .before .before .before .before .before .before .before .if1 .left) j (c .before .before .before .before .before .before .examine .result) w (c .before .before .before .before .a .given .1) (c .refuse .ensures)
 
 returns-3 : tie.Need-returns-3
 returns-3 c =
@@ -81,13 +83,13 @@ examine-at-spec =
     tie.close
     (tie.spec
     element-copy-out-branch
-    put-fault-requires
+    refuse-path-requires
     returns
     cast-p
     path-at-requires
     examine-requires
     enum-known-a
-    put-fault-requires-2
+    refuse-requires
     enum-known-a-2
     cast-put-pass
     put-pass-requires

@@ -1,0 +1,65 @@
+// Check and Report for C and Rust. Work memory is the function's own.
+ghost use mathlib.Core.Path.{_≡_};
+ghost use mathlib.Core.Logic.{_↔_};
+ghost use lib.ListN.{length, getD, take};
+ghost use Rattle.rows.specs.Work.{workWords};
+ghost use Rattle.examiner.specs.Check.{check as checkOf};
+ghost use Rattle.examiner.specs.InOrder.{InOrder};
+ghost use Rattle.examiner.specs.Report.{report as reportOf, opening};
+ghost use Rattle.examiner.specs.Lent.{outputAfter};
+ghost use Rattle.ast.specs.declared.Checked.the-variants.{Err};
+ghost use Rattle.bithoven_examiner.specs.Numbers.{numbersOf};
+use ast::Checked;
+use ast::CompileError;
+use ast::numbers::error_number;
+use examiner::check;
+use examiner::report::report;
+
+// A refusal in numbers.
+fn put_fault(answer: &mut [u32; 5], x: CompileError)
+    ensures { λ _. ⌜ now (answer .exit) ≡ numbersOf (Err x) ⌝ }
+{
+    let loc = x.loc;
+    let kind = x.kind;
+    *answer = [error_number(kind), loc.start, loc.end, loc.line, loc.column];
+}
+
+// An answer in numbers.
+fn put_answer(answer: &mut [u32; 5], c: Checked)
+    ensures { λ _. ⌜ now (answer .exit) ≡ numbersOf c ⌝ }
+{
+    match c {
+        Checked::Ok => {
+            *answer = [0, 0, 0, 0, 0];
+        }
+        Checked::Err(x) => put_fault(answer, x),
+    }
+}
+
+// Check: 0 if the listing is accepted, else the number of the refusal; `answer` gets that number and the location.
+#[no_mangle]
+pub extern "C" fn bithoven_check(listing: &[u8], answer: &mut [u32; 5]) -> u32
+    ensures { λ r. ⌜ r ≡ getD (numbersOf (checkOf (now (listing .entry)) workWords)) 0 0 ⌝ }
+    ensures { λ _. ⌜ now (answer .exit) ≡ numbersOf (checkOf (now (listing .entry)) workWords) ⌝ }
+    ensures { λ r. ⌜ (r ≡ 0) ↔ InOrder (now (listing .entry)) workWords ⌝ }
+{
+    let mut work: [u32; 16384] = [0; 16384];
+    let c = check(listing, &mut work);
+    put_answer(answer, c);
+    answer[0]
+}
+
+// Report: the length of the text in `output`; 0 with the numbers of 6 in `answer`, and `output` unchanged, if it is too short.
+#[no_mangle]
+pub extern "C" fn bithoven_report(listing: &[u8], output: &mut [u8], answer: &mut [u32; 5]) -> usize
+    ensures { λ r. ⌜ r ≡ reportOf (now (listing .entry)) workWords (length (now (output .entry))) .length ⌝ }
+    ensures { λ _. ⌜ now (answer .exit) ≡ numbersOf (reportOf (now (listing .entry)) workWords (length (now (output .entry))) .answer) ⌝ }
+    ensures { λ _. ⌜ now (output .exit) ≡ outputAfter (now (listing .entry)) workWords (now (output .entry)) ⌝ }
+    ensures { λ r. ⌜ ((r ≡ 0 → ⊥) → take 2 (now (output .exit)) ≡ opening (checkOf (now (listing .entry)) workWords)) ⌝ }
+{
+    let mut work: [u32; 16384] = [0; 16384];
+    let r = report(listing, &mut work, output);
+    let c = r.answer;
+    put_answer(answer, c);
+    r.length
+}

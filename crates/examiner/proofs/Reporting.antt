@@ -1,0 +1,188 @@
+-- What Report answers and leaves, from what its parts did.
+use Prim.Native.Nat.{ℕ, _+_, _≤_, _<_}
+use native.Mathlib.Omega.{arith}
+use mathlib.Core.Bool.{Bool, true, false}
+use mathlib.Core.List.{List, [], _∷_, _++_}
+use mathlib.Core.Path.{_≡_, refl, sym, ap, _∙_, subst}
+use borrow.Author.Tests.{lt-ltb, le-ltb, ltb-true, ltb-false, eqb-true, eq-eqb}
+use lib.Dec.{ltb, eqb}
+use lib.ListN.{length, getD, take, drop, length-append, length-drop}
+use Rattle.ast.specs.declared.ErrorKind.the-variants.{WorkTooShort, OutputTooShort}
+use Rattle.ast.specs.declared.CompileError.{CompileError}
+use Rattle.ast.specs.declared.Checked.{Checked}
+use Rattle.ast.specs.declared.Checked.the-variants.{Ok, Err}
+use Rattle.ast.specs.Tree.{Contract, unplaced}
+use Rattle.rules.specs.Result.{Result, ok, err, refused, answer}
+use Rattle.rules.specs.Table.{Table}
+use Rattle.rules.specs.Analyze.{analyze}
+use Rattle.rules.proofs.Basics.{Err≢Ok}
+use Rattle.rows.specs.Rows.{lineIn}
+use Rattle.rows.specs.Work.{workWords, cleared}
+use Rattle.reader.specs.declared.ListingRead.{ListingRead}
+use Rattle.reader.specs.declared.ListingRead.the-variants.{Rows, Refused}
+use Rattle.reader.specs.Source.{Read, read, refused as unread}
+use Rattle.reader.specs.Reading.{readListing}
+use Rattle.reader.specs.Spells.{SpellsContract}
+use Rattle.reader.specs.Held.{rowsOf, listingRead, workRead, Spelled}
+use Rattle.usage.specs.declared.NamePlace.{NamePlace}
+use Rattle.analyze.specs.declared.Declared.{Declared}
+use Rattle.analyze.specs.State.{faultIn, tablesOf, Ready, Analyzed, analyzed as numbered}
+use Rattle.output.specs.Put.{most, puts, Room, Wrote}
+use Rattle.output.proofs.Laws.{puts-off, puts-whole}
+use Rattle.reporting.specs.Text.{fields, reportLine, acceptance, refusal, textOf}
+use Rattle.examiner.specs.declared.Reported.{Reported}
+use Rattle.examiner.specs.Check.{analyzed, examine, check}
+use Rattle.examiner.specs.Report.{reportText, reported, report, opening}
+use Rattle.examiner.specs.Lent.{workAfter, written, outputAfter}
+use Rattle.examiner.proofs.Demand3.{examined}
+use Rattle.examiner.proofs.Checking.{refused≢rows, check-refused, work-refused, spelled-at, room-read, work-read}
+
+pub refusal-text : (x : CompileError) → textOf (err x) ≡ refusal x
+unfolding textOf
+refusal-text x = refl
+
+pub acceptance-text : (ts : List Table) → textOf (ok ts) ≡ acceptance ts
+unfolding textOf
+acceptance-text ts = refl
+
+-- 6
+abbrev tooShort : Reported
+tooShort = record { answer = refused OutputTooShort unplaced; length = 0 }
+
+-- a text that is measured, and then written if output has room for it
+module _ (w : Result (List Table)) (text : List ℕ) (is : textOf w ≡ text) {out out₁ : List ℕ} {bound n : ℕ} (measured : Wrote false out 0 text bound out₁ n) where
+  same : out₁ ≡ out
+  same = measured .holds ∙ puts-off out 0 text
+
+  long : n ≡ length (textOf w)
+  long = let e = measured .past in omega (arith, ap length is)
+
+  pub no-room : (r : Reported) → length out₁ < n → r ≡ tooShort → (r ≡ reported w (length out)) × (out₁ ≡ written (textOf w) out)
+  unfolding reported written
+  no-room r h e =
+      let l : length out < length (textOf w) = omega (arith, ap length same, long) in
+      (rw (lt-ltb (length out) (length (textOf w)) l, reported) e, rw (lt-ltb (length out) (length (textOf w)) l, written) same)
+
+  pub may-write : n ≤ length out₁ → bound ≤ most → Room true out₁ 0 text bound
+  may-write h b = let e = measured .past in record { fits = λ t. omega arith; counts = omega arith }
+
+  pub has-room : (a : Checked) → a ≡ answer w → n ≤ length out₁ → {out₂ : List ℕ} {m : ℕ} → Wrote true out₁ 0 text bound out₂ m → (record { answer = a; length = n } ≡ reported w (length out)) × (out₂ ≡ written (textOf w) out)
+  unfolding reported written
+  has-room a e h {out₂} wrote =
+      let l : length (textOf w) ≤ length out = omega (arith, ap length same, long) in
+      let whole : out₂ ≡ textOf w ++ drop (length (textOf w)) out =
+      wrote .holds ∙ ap (λ (o : List ℕ). puts true o 0 text) same ∙ ap (puts true out 0) (sym is) ∙ puts-whole out (textOf w) l in
+      (rw (le-ltb (length out) (length (textOf w)) l, reported) (ap (λ a. record { answer = a; length = n }) e ∙ ap (λ n. record { answer = answer w; length = n }) long), rw (le-ltb (length out) (length (textOf w)) l, written) whole)
+
+-- what Report promises of its answer r, of work at exit t and of output at exit o
+abbrev pub Promised : List ℕ → List ℕ → List ℕ → Reported → List ℕ → List ℕ → Type 0
+Promised s w out r t o = (r ≡ report s (length w) (length out)) × ((t ≡ workAfter w) × ((o ≡ outputAfter s (length w) out) × ((r .length ≡ 0 → ⊥) → take 2 o ≡ opening (check s (length w)))))
+
+text-opens : (w : Result (List Table)) (rest : List ℕ) → take 2 (textOf w ++ rest) ≡ opening (answer w)
+unfolding textOf acceptance refusal reportLine fields answer opening
+text-opens (ok ts) rest = refl
+text-opens (err x) rest = refl
+
+module _ (s w out : List ℕ) where
+  opens : (r : Reported) (o : List ℕ) → r ≡ report s (length w) (length out) → o ≡ outputAfter s (length w) out → (r .length ≡ 0 → ⊥) → take 2 o ≡ opening (check s (length w))
+  unfolding report reported outputAfter written reportText check
+  opens r o e f h = go (ltb (length w) workWords) refl
+    where
+      text : List ℕ
+      text = textOf (examine s (length w))
+
+      room : ltb (length w) workWords ≡ false → (b : Bool) → ltb (length out) (length (textOf (examine s (length w)))) ≡ b → take 2 o ≡ opening (check s (length w))
+      room p true q = absurd (h (ap (λ r. r .length) (rw (p, q, report, reported) at e)))
+      room p false q = ap (take 2) (rw (p, q, outputAfter, reportText, written) at f) ∙ text-opens (examine s (length w)) (drop (length (textOf (examine s (length w)))) out)
+
+      go : (b : Bool) → ltb (length w) workWords ≡ b → take 2 o ≡ opening (check s (length w))
+      go true p = absurd (h (ap (λ r. r .length) (rw (p, report) at e)))
+      go false p = room p (ltb (length out) (length (textOf (examine s (length w))))) refl
+
+  pub short : (r : Reported) → length w < workWords → r ≡ record { answer = refused WorkTooShort unplaced; length = 0 } → Promised s w out r w out
+  unfolding report outputAfter workAfter
+  short r h e =
+      let p = lt-ltb (length w) workWords h in
+      let a : r ≡ report s (length w) (length out) = rw (p, report) e in
+      let o : out ≡ outputAfter s (length w) out = rw (p, outputAfter) refl in
+      (a, (rw (p, workAfter) refl, (o, opens r out a o)))
+
+  -- what was found is reported
+  module _ (enough : workWords ≤ length w) (x : Result (List Table)) (found : examine s (length w) ≡ x) where
+    pub reports : (r : Reported) (t o : List ℕ) → t ≡ workAfter w → r ≡ reported x (length out) → o ≡ written (textOf x) out → Promised s w out r t o
+    unfolding report outputAfter reportText
+    reports r t o e f g =
+        let p = le-ltb (length w) workWords enough in
+        let a : r ≡ report s (length w) (length out) = rw (p, found, report) f in
+        let b : o ≡ outputAfter s (length w) out = rw (p, found, outputAfter, reportText) g in
+        (a, (e, (b, opens r o a b)))
+
+-- an answer says what was found
+pub answer-err : (w : Result (List Table)) (x : CompileError) → Err x ≡ answer w → w ≡ err x
+unfolding answer
+answer-err (ok ts) x h = absurd (Err≢Ok h)
+answer-err (err y) x h = let e : y ≡ x = cc in ap err e
+
+pub answer-ok : (ts : List Table) (out : List ℕ) → Ok ≡ answer (numbered ts out) → (getD out 0 0 ≡ 0) × (numbered ts out ≡ ok ts)
+unfolding numbered answer
+answer-ok ts out h = go (eqb (getD out 0 0) 0) refl
+  where
+    go : (b : Bool) → eqb (getD out 0 0) 0 ≡ b → (getD out 0 0 ≡ 0) × (numbered ts out ≡ ok ts)
+    go true e = (eqb-true (getD out 0 0) 0 e, rw (e, numbered) refl)
+    go false e = absurd (Err≢Ok (sym (rw (e, numbered) at h)))
+
+module _ (s w t out : List ℕ) {y : ListingRead} (enough : workWords ≤ length w) (answered : y ≡ listingRead s (length w)) (held : t ≡ workRead s w) where
+  -- a listing that is not read
+  pub report-refused : (x : CompileError) → y ≡ Refused x → (r : Reported) (o : List ℕ) → r ≡ reported (err x) (length out) → o ≡ written (textOf (err x)) out → Promised s w out r t o
+  unfolding check
+  report-refused x e r o f g =
+      let h = sym answered ∙ e in
+      let found = answer-err (examine s (length w)) x (check-refused s x (length w) h) in
+      reports s w out enough (err x) found r t o (held ∙ work-refused s x w h) f g
+
+  -- and one that is
+  pub report-read : (n : ℕ) (h : Spelled s t n) (r : Reported) (o u : List ℕ) → u ≡ cleared t → ((c : Contract) → SpellsContract (lineIn t) s c n → r ≡ reported (analyze c) (length out)) → ((c : Contract) → SpellsContract (lineIn t) s c n → o ≡ written (textOf (analyze c)) out) → Promised s w out r u o
+  report-read n h r o u e f g =
+      reports s w out enough (analyze (h .contract)) (examined s (length w) (h .contract) enough (h .source, h .reads)) r u o (e ∙ work-read s w t n h enough held) (f (h .contract) (h .spells)) (g (h .contract) (h .spells))
+
+-- what an analysis found, by the answer that its numbers say
+module _ {s t : List ℕ} {d : Declared} {rows : List (List NamePlace)} {taken out : List ℕ} {w : Result (List Table)} (a : Analyzed s t d w rows taken out) {c : Checked} (says : (ts : List Table) → c ≡ answer (numbered ts out)) where
+  pub found-fault : (x : CompileError) → c ≡ Err x → err x ≡ w
+  found-fault x e = sym (answer-err w x (sym e ∙ says (tablesOf s t d rows taken) ∙ ap answer (a .result)))
+
+  pub found-tables : c ≡ Ok → Ready s t d rows taken × (ok (tablesOf s t d rows taken) ≡ w)
+  found-tables e = let p = answer-ok (tablesOf s t d rows taken) out (sym e ∙ says (tablesOf s t d rows taken)) in (a .ready (p .0), sym (p .1) ∙ a .result)
+
+-- a text that is handed back fits
+pub report-fits : (s : List ℕ) (words room : ℕ) → report s words room .length ≤ room
+unfolding report reported
+report-fits s words room = go (ltb words workWords) refl
+  where
+    fits : ltb words workWords ≡ false → (b : Bool) → ltb room (length (textOf (examine s words))) ≡ b → report s words room .length ≤ room
+    fits p true q = rw (p, q, report, reported) (omega arith)
+    fits p false q = rw (p, q, report, reported) (ltb-false room (length (textOf (examine s words))) q)
+
+    go : (b : Bool) → ltb words workWords ≡ b → report s words room .length ≤ room
+    go true p = rw (p, report) (omega arith)
+    go false p = fits p (ltb room (length (textOf (examine s words)))) refl
+
+-- in the output that is left, which is as long as it was
+output-length : (s : List ℕ) (words : ℕ) (out : List ℕ) → length (outputAfter s words out) ≡ length out
+unfolding outputAfter written
+output-length s words out = go (ltb words workWords) refl
+  where
+    text : (b : Bool) → ltb (length out) (length (reportText s words)) ≡ b → length (written (reportText s words) out) ≡ length out
+    text true q = rw (q, written) refl
+    text false q =
+        let h = ltb-false (length out) (length (reportText s words)) q in
+        rw (q, written) (length-append (reportText s words) (drop (length (reportText s words)) out) ∙ let d = length-drop (length (reportText s words)) out in omega arith)
+
+    go : (b : Bool) → ltb words workWords ≡ b → length (outputAfter s words out) ≡ length out
+    go true p = rw (p, outputAfter) refl
+    go false p = rw (p, outputAfter) (text (ltb (length out) (length (reportText s words))) refl)
+
+pub report-within : (s : List ℕ) (words : ℕ) (out o : List ℕ) (r : Reported) → r ≡ report s words (length out) → o ≡ outputAfter s words out → r .length ≤ length o
+report-within s words out o r e f =
+    let a : r .length ≡ report s words (length out) .length = ap (λ r. r .length) e in
+    let l : length o ≡ length out = ap length f ∙ output-length s words out in
+    omega (arith, report-fits s words (length out))

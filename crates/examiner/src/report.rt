@@ -1,0 +1,132 @@
+// Report: the answer, and its text in the lent output.
+ghost use mathlib.Core.Path.{_≡_};
+ghost use Prim.Native.Nat.{ℕ, _≤_};
+ghost use lib.ListN.{length, take};
+ghost use Rattle.ast.specs.Tree.{Contract, unplaced};
+ghost use Rattle.rules.specs.Result.{ok, err, refused};
+ghost use Rattle.rules.specs.Analyze.{analyze as analyzeOf};
+ghost use Rattle.rows.specs.Rows.{lineIn};
+ghost use Rattle.rows.specs.Work.{workWords, cleared};
+ghost use Rattle.reader.specs.Ceilings.{maxBytes};
+ghost use Rattle.reader.specs.Spells.{SpellsContract};
+ghost use Rattle.analyze.specs.Items.{ContractAt, DeclaredAs};
+ghost use Rattle.analyze.specs.State.{tablesOf, Ready};
+ghost use Rattle.reporting.specs.Text.{textOf};
+ghost use Rattle.examiner.specs.Check.{check as checkOf};
+ghost use Rattle.examiner.specs.Report.{reported, report as reportOf, opening};
+ghost use Rattle.examiner.specs.Lent.{workAfter, written, outputAfter};
+use crate::Reported;
+use crate::checked_in;
+use analyze::Declared;
+use analyze::analyze;
+use analyze::declarations;
+use ast::Checked;
+use ast::CompileError;
+use ast::ErrorKind;
+use ast::unplaced;
+use reader::ListingRead;
+use reader::read_listing;
+use reporting::put_acceptance;
+use reporting::put_refusal;
+use usage::NamePlace;
+
+const WORK_WORDS: usize = 16384;
+
+// A refusal that has no text: 5 or 6.
+fn without_text(kind: ErrorKind) -> Reported
+    ensures { λ r. ⌜ r ≡ record { answer = refused kind unplaced; length = 0 } ⌝ }
+{
+    Reported {
+        answer: Checked::Err(CompileError {
+            loc: unplaced(),
+            kind,
+        }),
+        length: 0,
+    }
+}
+
+// A refusal and its text, if output has room for it.
+fn report_refusal(output: &mut [u8], x: CompileError) -> Reported
+    ensures { λ r. ⌜ r ≡ reported (err x) (length (now (output .entry))) ⌝ }
+    ensures { λ _. ⌜ now (output .exit) ≡ written (textOf (err x)) (now (output .entry)) ⌝ }
+{
+    let n = put_refusal(output, false, 0, x);
+    if output.len() < n {
+        return without_text(ErrorKind::OutputTooShort);
+    }
+    put_refusal(output, true, 0, x);
+    Reported {
+        answer: Checked::Err(x),
+        length: n,
+    }
+}
+
+// An acceptance and its text, if output has room for it.
+fn report_acceptance(
+    listing: &[u8],
+    table: &[u32],
+    d: Declared,
+    rows: [[NamePlace; 32]; 32],
+    taken: &[u32; 32],
+    output: &mut [u8],
+) -> Reported
+    requires { ⌜ Ready (now listing) (now table) d rows (now taken) × (length (now listing) ≤ maxBytes) ⌝ }
+    ensures { λ r. ⌜ r ≡ reported (ok (tablesOf (now (listing .entry)) (now (table .entry)) d rows (now (taken .entry)))) (length (now (output .entry))) ⌝ }
+    ensures { λ _. ⌜ now (output .exit) ≡ written (textOf (ok (tablesOf (now (listing .entry)) (now (table .entry)) d rows (now (taken .entry))))) (now (output .entry)) ⌝ }
+{
+    let size = put_acceptance(listing, table, d, rows, taken, output, false, 0);
+    if output.len() < size {
+        return without_text(ErrorKind::OutputTooShort);
+    }
+    put_acceptance(listing, table, d, rows, taken, output, true, 0);
+    Reported {
+        answer: Checked::Ok,
+        length: size,
+    }
+}
+
+// The contract in n rows, analyzed and reported.
+fn report_table(listing: &[u8], table: &[u32], n: usize, d: Declared, output: &mut [u8]) -> Reported
+    requires { ⌜ ContractAt (now listing) (now table) n × ((c : Contract) → SpellsContract (lineIn (now table)) (now listing) c n → DeclaredAs (now listing) (now table) d c n) ⌝ }
+    ensures { λ r. ⌜ ((c : Contract) → SpellsContract (lineIn (now (table .entry))) (now (listing .entry)) c n → r ≡ reported (analyzeOf c) (length (now (output .entry)))) ⌝ }
+    ensures { λ _. ⌜ ((c : Contract) → SpellsContract (lineIn (now (table .entry))) (now (listing .entry)) c n → now (output .exit) ≡ written (textOf (analyzeOf c)) (now (output .entry))) ⌝ }
+{
+    let mut taken: [u32; 32] = [0; 32];
+    let mut out: [u32; 7] = [0; 7];
+    let held = analyze(listing, table, n, d, &mut taken, &mut out);
+    let answer = checked_in(&out);
+    match answer {
+        Checked::Err(x) => report_refusal(output, x),
+        Checked::Ok => report_acceptance(listing, table, d, held, &taken, output),
+    }
+}
+
+// The contract in n rows of work, analyzed and reported; work is cleared.
+fn report_rows(listing: &[u8], work: &mut [u32], output: &mut [u8], n: usize) -> Reported
+    requires { ⌜ ContractAt (now listing) (now work) n × (workWords ≤ length (now work)) ⌝ }
+    ensures { λ r. ⌜ ((c : Contract) → SpellsContract (lineIn (now (work .entry))) (now (listing .entry)) c n → r ≡ reported (analyzeOf c) (length (now (output .entry)))) ⌝ }
+    ensures { λ _. ⌜ ((c : Contract) → SpellsContract (lineIn (now (work .entry))) (now (listing .entry)) c n → now (output .exit) ≡ written (textOf (analyzeOf c)) (now (output .entry))) ⌝ }
+    ensures { λ _. ⌜ now (work .exit) ≡ cleared (now (work .entry)) ⌝ }
+{
+    let d = declarations(listing, &work[..], n);
+    let r = report_table(listing, &work[..], n, d, output);
+    rows::clear(work);
+    r
+}
+
+// Report: what Check answers, or 6, with the text's length. A text opens with `A,` exactly where Check accepts.
+pub fn report(listing: &[u8], work: &mut [u32], output: &mut [u8]) -> Reported
+    ensures { λ r. ⌜ r ≡ reportOf (now (listing .entry)) (length (now (work .entry))) (length (now (output .entry))) ⌝ }
+    ensures { λ _. ⌜ now (work .exit) ≡ workAfter (now (work .entry)) ⌝ }
+    ensures { λ _. ⌜ now (output .exit) ≡ outputAfter (now (listing .entry)) (length (now (work .entry))) (now (output .entry)) ⌝ }
+    ensures { λ r. ⌜ ((r .length ≡ 0 → ⊥) → take 2 (now (output .exit)) ≡ opening (checkOf (now (listing .entry)) (length (now (work .entry))))) ⌝ }
+{
+    if work.len() < WORK_WORDS {
+        return without_text(ErrorKind::WorkTooShort);
+    }
+    let read = read_listing(listing, work);
+    match read {
+        ListingRead::Refused(x) => report_refusal(output, x),
+        ListingRead::Rows(n) => report_rows(listing, work, output, n),
+    }
+}

@@ -1,0 +1,66 @@
+use Prim.Native.Nat.{_-_, _≤_}
+use native.Mathlib.Numerals.{add-one}
+use native.Mathlib.Omega.{arith}
+use borrow.Author.Needs.{needs}
+use lib.ListN.{length, take}
+use lib.Seq.{take-suc, take-all, length-take-le}
+use Rattle.output.specs.Put.{Wrote}
+use Rattle.output.proofs.Laws.{wrote-nothing, wrote-next, wrote-length, wrote-as}
+use Rattle.output.proofs.put_bytes.Statement.{statement}
+use Rattle.output.proofs.put_bytes.Tie as tie
+
+abbrev Inv-loop : tie.InvT-loop
+Inv-loop output₀ writing at s next₀ i₀ output next i = (i ≤ length s) × Wrote writing output₀ at (take i s) i output next
+
+abbrev μ-loop : tie.MeasureT-loop
+μ-loop output₀ writing at s next₀ i₀ output next i = length s - i
+
+loop-holds : tie.Need-loop-holds Inv-loop μ-loop
+loop-holds c = (search needs, wrote-nothing _ _ _)
+
+shared-slice-read-put-byte : tie.Need-shared-slice-read-put-byte Inv-loop μ-loop
+shared-slice-read-put-byte c = omega arith
+
+put-byte-requires : tie.Need-put-byte-requires Inv-loop μ-loop
+put-byte-requires c κs =
+    let wrote = c .before .before .before .loop .inv .1 in
+    let long = length-take-le (c .before .before .before .loop .i) (c .before .before .before .before .before .before .args .s .now) (omega arith) in
+    record {
+      fits = λ t. omega (arith, c .before .before .before .before .before .before .pre .fits t, wrote-length wrote);
+      counts = omega arith;
+    }
+
+add-i : tie.Need-add-i Inv-loop μ-loop
+add-i c = omega arith
+
+loop-less : tie.Need-loop-less Inv-loop μ-loop
+loop-less c = omega arith
+
+loop-again : tie.Need-loop-again Inv-loop μ-loop
+loop-again c =
+    let i = c .before .before .before .before .before .before .loop .i in
+    let s = c .before .before .before .before .before .before .before .before .before .args .s .now in
+    (omega arith, rw (add-one i, take-suc s i 0 (omega arith), ← add-one i) (wrote-next (c .before .before .before .before .before .before .loop .inv .1) (c .before .before .put-byte .ensures)))
+
+same-length : tie.Need-same-length Inv-loop μ-loop
+same-length c = wrote-length (c .before .loop .inv .1)
+
+returns : tie.Need-returns Inv-loop μ-loop
+returns c =
+    let s = c .before .before .before .before .args .s .now in
+    wrote-as (take-all (c .before .loop .i) s (omega arith)) (omega arith) (c .before .loop .inv .1)
+
+pub put-bytes-spec : {M : Type 1} → statement M
+put-bytes-spec =
+    tie.close
+    (tie.spec
+    Inv-loop
+    μ-loop
+    loop-holds
+    shared-slice-read-put-byte
+    put-byte-requires
+    add-i
+    loop-less
+    loop-again
+    same-length
+    returns)

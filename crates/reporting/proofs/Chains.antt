@@ -1,0 +1,114 @@
+-- The lines of a report as runs of fields.
+use Prim.Native.Nat.{ℕ, zero, suc, _+_, _-_, _/_, _≤_}
+use native.Mathlib.Omega.{arith}
+use mathlib.Core.Bool.{Bool}
+use mathlib.Core.List.{List, [], _∷_, _++_, append-assoc}
+use mathlib.Core.Path.{_≡_, refl, sym, ap, _∙_, subst}
+use lib.ListN.{length, take, drop, length-drop}
+use lib.Seq.{length-take-le}
+use Rattle.ast.specs.declared.CompileError.{CompileError}
+use Rattle.ast.specs.Tree.{number}
+use Rattle.ast.specs.Numbers.{typeNumber}
+use Rattle.text.specs.declared.Place.{Place}
+use Rattle.text.specs.Text.{part}
+use Rattle.rows.specs.Rows.{lineIn}
+use Rattle.names.specs.declared.Item.{Item}
+use Rattle.names.specs.Items.{Inside, NamedRow, lineOf, itemOf, itemIn}
+use Rattle.rules.specs.Table.{Table}
+use Rattle.usage.specs.declared.NamePlace.{NamePlace}
+use Rattle.usage.specs.declared.Path.{Path}
+use Rattle.usage.specs.Path.{takenBy, tableFrom, tableOf, WellFormed}
+use Rattle.output.specs.Decimal.{decimal}
+use Rattle.output.specs.Put.{Room, Wrote}
+use Rattle.output.proofs.Laws.{room-as, wrote-as}
+use Rattle.reporting.specs.Bounds.{refusalBound, nameBound, itemBound, itemsBound, pathBound, pathsBound, acceptanceBound}
+use Rattle.reader.specs.Ceilings.{maxBytes}
+use Rattle.reporting.specs.Text.{fields, reportLine, taker, itemLine, itemLines, pathLine, pathLines, acceptance, refusal}
+use Rattle.reporting.specs.Taker.{tookOf, lineIf}
+use Rattle.reporting.proofs.Items.{taker-fields}
+
+-- a text by another name, with a larger bound
+pub wrote-under : {w : Bool} {out text other after : List ℕ} {at m n next : ℕ} → text ≡ other → m ≤ n → Wrote w out at text m after next → Wrote w out at other n after next
+wrote-under e h wrote = wrote-as e (let k = wrote .short in omega (arith, ap length e)) wrote
+
+-- a field, and what follows
+abbrev pub field : ℕ → List ℕ → List ℕ
+field n rest = (44 ∷ decimal n) ++ rest
+
+-- the fields of a location, and the line's end
+abbrev pub located : CompileError → List ℕ
+located x = field (x .loc .start) (field (x .loc .end) (field (x .loc .line) (field (x .loc .column) (10 ∷ []))))
+
+pub refusal-run : (x : CompileError) (n : ℕ) → n ≡ number (x .kind) → (82 ∷ 44 ∷ []) ++ (decimal n ++ located x) ≡ refusal x
+unfolding refusal reportLine fields
+refusal-run x n e = ap (λ n. 82 ∷ 44 ∷ (decimal n ++ located x)) e
+
+pub refusal-room : {w : Bool} {out : List ℕ} {at : ℕ} (x : CompileError) {n : ℕ} → n ≡ number (x .kind) → Room w out at (refusal x) refusalBound → Room w out at ((82 ∷ 44 ∷ []) ++ (decimal n ++ located x)) (2 + (10 + (11 + (11 + (11 + (11 + 1))))))
+refusal-room x {n} e room = room-as (sym (refusal-run x n e)) (omega arith) room
+
+-- a part of the listing, from its place on
+pub part-taken : (s : List ℕ) (x : Place) → take (x .at + x .len - x .at) (drop (x .at) s) ≡ part s x
+unfolding part
+part-taken s x = let e : x .at + x .len - x .at ≡ x .len = omega arith in ap (λ n. take n (drop (x .at) s)) e
+
+-- the item that a row holds
+module _ {s t : List ℕ} {i : ℕ} (row : NamedRow s t i) {it : Item} (is : lineIn t i ≡ lineOf it) where
+  pub named-inside : Inside s (it .name)
+  named-inside = let e = row .holds .is in let n : row .holds .held .name ≡ it .name = cc in subst (λ x. Inside s x) n (row .inside)
+
+  -- the fields of its line from the position on
+  abbrev pub itemRun : ℕ → ℕ → ℕ → ℕ → List ℕ
+  itemRun k ty took line = (80 ∷ []) ++ field k (field ty (field took (field line ((44 ∷ part s (it .name)) ++ (10 ∷ [])))))
+
+  pub item-run : (k b n ty took line : ℕ) → ty ≡ typeNumber (it .ty) → took ≡ tookOf b → line ≡ lineIf b n → itemRun k ty took line ≡ itemLine k (record { param = itemIn s t i; taken = takenBy b n })
+  unfolding itemLine reportLine fields itemIn itemOf
+  item-run k b n ty took line e f g = rw (is, taker-fields b n, e, f, g, itemIn, itemLine) refl
+
+-- room for a name, as it is taken out of the listing
+pub name-room : {w : Bool} {out : List ℕ} {at : ℕ} (s : List ℕ) (x : Place) → Inside s x → length s ≤ maxBytes → Room w out at (44 ∷ part s x) nameBound → Room w out at (44 ∷ take (x .at + x .len - x .at) (drop (x .at) s)) (1 + length (take (x .at + x .len - x .at) (drop (x .at) s)))
+name-room s x h short room =
+    let n = x .at + x .len - x .at in
+    let k = length-take-le n (drop (x .at) s) (omega (arith, length-drop (x .at) s)) in
+    room-as (ap (λ (l : List ℕ). 44 ∷ l) (sym (part-taken s x))) (omega arith) room
+
+pub name-wrote : {w : Bool} {out after : List ℕ} {at next : ℕ} (s : List ℕ) (x : Place) → Inside s x → length s ≤ maxBytes → Wrote w out at (44 ∷ take (x .at + x .len - x .at) (drop (x .at) s)) (1 + length (take (x .at + x .len - x .at) (drop (x .at) s))) after next → Wrote w out at (44 ∷ part s x) nameBound after next
+name-wrote s x h short wrote =
+    let n = x .at + x .len - x .at in
+    let k = length-take-le n (drop (x .at) s) (omega (arith, length-drop (x .at) s)) in
+    wrote-under (ap (λ (l : List ℕ). 44 ∷ l) (part-taken s x)) (omega arith) wrote
+
+-- room for an item's line, as the fields of a run
+pub item-room : {w : Bool} {out s t : List ℕ} {at i : ℕ} (row : NamedRow s t i) {it : Item} (is : lineIn t i ≡ lineOf it) (k b n ty took line : ℕ) → ty ≡ typeNumber (it .ty) → took ≡ tookOf b → line ≡ lineIf b n → Room w out at (itemLine k (record { param = itemIn s t i; taken = takenBy b n })) itemBound → Room w out at (itemRun row is k ty took line) (1 + (11 + (11 + (11 + (11 + (nameBound + 1))))))
+item-room row is k b n ty took line e f g room = room-as (sym (item-run row is k b n ty took line e f g)) (omega arith) room
+
+-- a path's head, as fields, and its items
+pub path-run : (p n : ℕ) (t : Table) → n ≡ length t → (68 ∷ []) ++ field p (field n ((10 ∷ []) ++ itemLines 0 t)) ≡ pathLine p t
+unfolding pathLine reportLine fields
+path-run p n t e =
+    ap (λ n. 68 ∷ field p (field n (10 ∷ itemLines 0 t))) e
+    ∙ ap (λ (l : List ℕ). 68 ∷ field p (44 ∷ l)) (sym (append-assoc (decimal (length t)) (10 ∷ []) (itemLines 0 t)))
+    ∙ ap (λ (l : List ℕ). 68 ∷ 44 ∷ l) (sym (append-assoc (decimal p) (44 ∷ (decimal (length t) ++ (10 ∷ []))) (itemLines 0 t)))
+
+pub path-room : {w : Bool} {out : List ℕ} {at : ℕ} (p n : ℕ) (t : Table) → n ≡ length t → Room w out at (pathLine p t) pathBound → Room w out at ((68 ∷ []) ++ field p (field n ((10 ∷ []) ++ itemLines 0 t))) (1 + (11 + (11 + (1 + itemsBound))))
+path-room p n t e room = room-as (sym (path-run p n t e)) (omega arith) room
+
+-- a table has as many entries as its path has items
+table-full : (s t : List ℕ) (qs : List NamePlace) (x n : ℕ) → n ≤ length qs → length (tableFrom s t qs x n) ≡ n
+unfolding tableFrom
+table-full s t [] x n h = omega arith
+table-full s t (q ∷ qs) x zero h = refl
+table-full s t (q ∷ qs) x (suc n) h = ap suc (table-full s t qs (x / 2) n (omega arith))
+
+pub table-length : {s t : List ℕ} {p : Path} → WellFormed s t p → p .count ≡ length (tableOf s t p)
+unfolding tableOf
+table-length {s} {t} {p} w = let few = w .few in let full = w .full in sym (table-full s t (p .places) (p .taken) (p .count) (omega arith))
+
+-- the first line of an acceptance, and the paths
+pub acceptance-run : (n : ℕ) (ts : List Table) → n ≡ length ts → (65 ∷ 44 ∷ []) ++ (decimal n ++ ((10 ∷ []) ++ pathLines 0 ts)) ≡ acceptance ts
+unfolding acceptance reportLine fields
+acceptance-run n ts e =
+    ap (λ n. 65 ∷ 44 ∷ (decimal n ++ (10 ∷ pathLines 0 ts))) e
+    ∙ ap (λ (l : List ℕ). 65 ∷ 44 ∷ l) (sym (append-assoc (decimal (length ts)) (10 ∷ []) (pathLines 0 ts)))
+
+pub acceptance-room : {w : Bool} {out : List ℕ} {at : ℕ} (n : ℕ) (ts : List Table) → n ≡ length ts → Room w out at (acceptance ts) acceptanceBound → Room w out at ((65 ∷ 44 ∷ []) ++ (decimal n ++ ((10 ∷ []) ++ pathLines 0 ts))) (2 + (10 + (1 + pathsBound)))
+acceptance-room n ts e room = room-as (sym (acceptance-run n ts e)) (omega arith) room

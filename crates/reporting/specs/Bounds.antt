@@ -1,0 +1,30 @@
+-- How long the texts of a report can be, so that a position in one can be counted.
+use Prim.Native.Nat.{ℕ, _+_, _*_}
+
+-- R, a number and four fields
+abbrev pub refusalBound : ℕ
+refusalBound = 57
+
+-- a name of a listing's bytes, with its comma
+abbrev pub nameBound : ℕ
+nameBound = 32769
+
+-- P, four fields, a name of a listing's bytes
+abbrev pub itemBound : ℕ
+itemBound = 32815
+
+-- 32 items
+abbrev pub itemsBound : ℕ
+itemsBound = 1050080
+
+-- D, two fields and the items
+abbrev pub pathBound : ℕ
+pathBound = 1050104
+
+-- 32 paths
+abbrev pub pathsBound : ℕ
+pathsBound = 33603328
+
+-- A, a number and the paths
+abbrev pub acceptanceBound : ℕ
+acceptanceBound = 33603341

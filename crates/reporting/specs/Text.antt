@@ -1,0 +1,56 @@
+-- The text of a report.
+use Prim.Native.Nat.{ℕ, suc}
+use mathlib.Core.List.{List, [], _∷_, _++_}
+use mathlib.Core.Option.{Option, some, none}
+use lib.ListN.{length}
+use Rattle.ast.specs.declared.CompileError.{CompileError}
+use Rattle.ast.specs.Tree.{number}
+use Rattle.ast.specs.Numbers.{typeNumber}
+use Rattle.rules.specs.Result.{Result, ok, err}
+use Rattle.rules.specs.Table.{Entry, Table}
+use Rattle.output.specs.Decimal.{decimal}
+
+-- fields parted by commas, and byte 10
+unfoldable pub fields : List (List ℕ) → List ℕ
+fields [] = 10 ∷ []
+fields (f ∷ fs) = 44 ∷ (f ++ fields fs)
+
+-- a report line: its letter and its fields
+unfoldable pub reportLine : ℕ → List (List ℕ) → List ℕ
+reportLine letter fs = letter ∷ fields fs
+
+-- taken or not, and the listing line that takes it
+unfoldable pub taker : Option ℕ → List (List ℕ)
+taker none = decimal 0 ∷ decimal 0 ∷ []
+taker (some n) = decimal 1 ∷ decimal n ∷ []
+
+-- P,position,type,taken,listing line that takes it,name
+unfoldable pub itemLine : ℕ → Entry → List ℕ
+itemLine k e = reportLine 80 (decimal k ∷ decimal (typeNumber (e .param .ty)) ∷ (taker (e .taken) ++ e .param .identifier ∷ []))
+
+-- the items of a path from the top, k being the first position
+unfoldable pub itemLines : ℕ → Table → List ℕ
+itemLines k [] = []
+itemLines k (e ∷ t) = itemLine k e ++ itemLines (suc k) t
+
+-- D,path,count and the path's items
+unfoldable pub pathLine : ℕ → Table → List ℕ
+pathLine n t = reportLine 68 (decimal n ∷ decimal (length t) ∷ []) ++ itemLines 0 t
+
+-- path by path, n being the first
+unfoldable pub pathLines : ℕ → List Table → List ℕ
+pathLines n [] = []
+pathLines n (t ∷ ts) = pathLine n t ++ pathLines (suc n) ts
+
+-- A,paths and each path
+unfoldable pub acceptance : List Table → List ℕ
+acceptance ts = reportLine 65 (decimal (length ts) ∷ []) ++ pathLines 0 ts
+
+-- R,number,start,end,line,column
+unfoldable pub refusal : CompileError → List ℕ
+refusal x = reportLine 82 (decimal (number (x .kind)) ∷ decimal (x .loc .start) ∷ decimal (x .loc .end) ∷ decimal (x .loc .line) ∷ decimal (x .loc .column) ∷ [])
+
+-- the report of what was found
+unfoldable pub textOf : Result (List Table) → List ℕ
+textOf (ok ts) = acceptance ts
+textOf (err x) = refusal x

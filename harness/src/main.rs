@@ -1,0 +1,113 @@
+//! Compares the examiner of spending contracts with the original `analyze`. See README.md.
+
+mod aimed;
+mod case;
+mod cases;
+mod deep;
+mod embed;
+mod good;
+mod keys;
+mod listing;
+mod make;
+mod mutate;
+mod oracle;
+mod reading;
+mod rng;
+mod stored;
+mod tree;
+mod vectors;
+mod walk;
+mod writer;
+
+use case::Suite;
+use std::io::Read;
+use std::process::exit;
+use vectors::Records;
+
+const USAGE: &str = "usage: run vectors --sources SOURCES --seed NUMBER --out FOLDER
+       run deep --sources SOURCES --out FOLDER
+       run check --sources SOURCES --stored FOLDER
+       run answer --sources SOURCES < LISTING
+       run reading --sources SOURCES --stored FILE";
+
+/// The value after an option.
+fn option(arguments: &[String], name: &str) -> String {
+    let place = arguments.iter().position(|a| a == name);
+    match place.and_then(|i| arguments.get(i + 1)) {
+        Some(value) => value.clone(),
+        None => fail(&format!("{name} is missing\n{USAGE}")),
+    }
+}
+
+fn fail(text: &str) -> ! {
+    eprintln!("{text}");
+    exit(1)
+}
+
+fn contents(file: &str) -> Vec<u8> {
+    std::fs::read(file).unwrap_or_else(|e| fail(&format!("{file}: {e}")))
+}
+
+fn main() {
+    let arguments: Vec<String> = std::env::args().skip(1).collect();
+    match arguments.first().map(String::as_str) {
+        Some("vectors") => {
+            let seed = option(&arguments, "--seed").parse().unwrap_or_else(|_| fail("--seed wants a number"));
+            store(vectors::rules(seed), &option(&arguments, "--out"));
+        }
+        Some("deep") => {
+            let mut suite = Suite::new(0);
+            deep::add(&mut suite);
+            let mut records = Records::default();
+            suite.cases.iter().for_each(|case| {
+                records.add(case);
+            });
+            store(records, &option(&arguments, "--out"));
+        }
+        Some("answer") => answer(),
+        Some("check") => check(&option(&arguments, "--stored")),
+        Some("reading") => match reading::compare(&contents(&option(&arguments, "--stored"))) {
+            Ok(count) => println!("{count} listings are read as stored"),
+            Err(text) => fail(&text),
+        },
+        _ => fail(USAGE),
+    }
+}
+
+fn write(file: &str, bytes: &[u8]) {
+    std::fs::write(file, bytes).unwrap_or_else(|e| fail(&format!("{file}: {e}")));
+}
+
+/// Writes the listings and the answers and prints their table. Any case that missed its aim is a failure, and nothing is
+/// written.
+fn store(records: Records, folder: &str) {
+    if !records.faults.is_empty() {
+        fail(&format!("{}\n{} cases missed their aim", records.faults.join("\n"), records.faults.len()));
+    }
+    let data = format!("{folder}/data");
+    std::fs::create_dir_all(&data).unwrap_or_else(|e| fail(&format!("{data}: {e}")));
+    write(&format!("{data}/listings"), &records.listings());
+    write(&format!("{folder}/stdout"), records.stdout().as_bytes());
+    print!("{}", records.table());
+}
+
+/// Prints how many stored listings the original answers as stored; fails if one is not.
+fn check(folder: &str) {
+    let listings = contents(&format!("{folder}/data/listings"));
+    let stdout = contents(&format!("{folder}/stdout"));
+    let (count, faults) = vectors::check(&listings, &stdout).unwrap_or_else(|e| fail(&e));
+    if !faults.is_empty() {
+        fail(&format!("{}\n{} lines are due otherwise, of {count} listings", faults.join("\n"), faults.len()));
+    }
+    println!("{count} listings are answered as stored");
+}
+
+/// Prints the original's answer on the listing of standard input.
+fn answer() {
+    let mut bytes = vec![];
+    std::io::stdin().read_to_end(&mut bytes).unwrap();
+    match listing::read(&bytes) {
+        Err(refusal) => println!("reading: {refusal:?}"),
+        Ok(contract) => println!("{:?}", oracle::answer(&contract)),
+    }
+}
