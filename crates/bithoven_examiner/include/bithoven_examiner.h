@@ -1,0 +1,52 @@
+/* The Bithoven examiner: Check and Report on a listing.
+ *
+ * Link with libbithoven_examiner.a (x86-64; `rt staticlib bithoven_examiner` writes it to target/staticlib/).
+ *
+ * STACK. A call takes up to 2.2 MB of stack, 64 KiB of it for work memory: make it on a thread that has 4 MB or more.
+ * Nothing checks this at run time. docs/ARCHITECTURE.md says what was measured.
+ *
+ * Neither function allocates, keeps state, or reads or writes anything but its arguments; both may be called from several
+ * threads at once. No pointer may be null, not even with length 0. `answer` must point to five words; the three must not
+ * overlap.
+ */
+#ifndef BITHOVEN_EXAMINER_H
+#define BITHOVEN_EXAMINER_H
+
+#include <stddef.h>
+#include <stdint.h>
+
+#if defined(__GNUC__) || defined(__clang__)
+#define BITHOVEN_MUST_USE __attribute__((warn_unused_result))
+#else
+#define BITHOVEN_MUST_USE
+#endif
+
+#ifdef __cplusplus
+extern "C" {
+#endif
+
+/* Check.
+ *
+ * listing, listing_len   the bytes of the listing
+ * answer                 gets five numbers: 0 and four zeros if the listing is accepted; else the number of the refusal
+ *                        (1 to 4, 11 to 22) with its location: start, end, line, column
+ *
+ * Returns answer[0]: 0 if and only if the listing is accepted. */
+BITHOVEN_MUST_USE uint32_t bithoven_check(const uint8_t *listing, size_t listing_len, uint32_t answer[5]);
+
+/* Report: as Check, and the text of the report in `output`.
+ *
+ * listing, listing_len   the bytes of the listing
+ * output, output_len     gets the text; bytes past it are left as they were
+ * answer                 as with bithoven_check; or 6 and four zeros if output is shorter than the text, which then is left
+ *                        as it was
+ *
+ * Returns the length of the text, 0 with 6. A text opens with `A,` if the listing is accepted, else with `R,`. */
+BITHOVEN_MUST_USE size_t bithoven_report(const uint8_t *listing, size_t listing_len, uint8_t *output, size_t output_len,
+                                         uint32_t answer[5]);
+
+#ifdef __cplusplus
+}
+#endif
+
+#endif
