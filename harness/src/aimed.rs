@@ -57,6 +57,14 @@ pub fn add_round(suite: &mut Suite, size: Size) {
     }
 }
 
+/// Puts one of the faults, picked at random, into a good contract. Its label, and whether the refusal stands at 0,0,1,0;
+/// nothing if the contract has no place for the fault.
+#[cfg(feature = "examiner")]
+pub fn spoil(rng: &mut Rng, contract: &mut Contract) -> Option<(String, bool)> {
+    let fault = rng.pick(FAULTS);
+    fault(rng, contract).map(|done| (done.label, done.outset))
+}
+
 /// Picks one, if there is one.
 fn pick<T: Clone>(rng: &mut Rng, from: &[T]) -> Option<T> {
     if from.is_empty() {

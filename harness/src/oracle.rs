@@ -5,7 +5,7 @@ use original::analyze::analyze;
 use original::ast::*;
 
 /// `analyze` copies trees as it goes down them; the deepest listing needs more than a thread has by default.
-const STACK: usize = 64 << 20;
+pub const STACK: usize = 64 << 20;
 
 /// What the original says.
 #[derive(Clone, Debug, PartialEq, Eq)]
@@ -19,6 +19,20 @@ pub enum Answer {
     Panicked,
 }
 
+/// A contract in the original's types.
+pub struct Built {
+    pub block: Vec<Statement>,
+    pub declarations: Vec<Vec<StackParam>>,
+    pub target: Target,
+}
+
+/// Builds the original's tree. Nothing if a literal is not UTF-8.
+pub fn build(contract: &Contract) -> Option<Built> {
+    let block = block(&contract.block)?;
+    let declarations = contract.declarations.iter().map(|d| d.iter().map(item).collect()).collect();
+    Some(Built { block, declarations, target: target(contract.target) })
+}
+
 /// Asks `analyze`, on a thread of its own.
 pub fn answer(contract: &Contract) -> Answer {
     let contract = contract.clone();
@@ -26,12 +40,12 @@ pub fn answer(contract: &Contract) -> Answer {
     thread.join().unwrap_or(Answer::Panicked)
 }
 
-fn ask(contract: &Contract) -> Answer {
-    let Some(block) = block(&contract.block) else {
+/// Asks `analyze` on this thread, which must have as much stack as `STACK`. A panic goes through.
+pub fn ask(contract: &Contract) -> Answer {
+    let Some(built) = build(contract) else {
         return Answer::Outside;
     };
-    let declarations = contract.declarations.iter().map(|d| d.iter().map(item).collect()).collect();
-    match analyze(&block, declarations, &target(contract.target)) {
+    match analyze(&built.block, built.declarations, &built.target) {
         Ok(()) => Answer::Accepted,
         Err(error) => Answer::Refused(number(&error.kind), place(&error.loc)),
     }
