@@ -1,0 +1,203 @@
+// Fuzzing of the C exports with libFuzzer. What must hold of every input is in `examine`; the library is not instrumented,
+// so `follow`, a small reader of listings in C, is what guides the fuzzer towards listings that are read.
+#include "../../crates/bithoven_examiner/include/bithoven_examiner.h"
+#include <stdint.h>
+#include <stdio.h>
+#include <stdlib.h>
+#include <string.h>
+
+#define ROOM 70000
+
+// How much of an output is filled and looked at: a short listing has a short text.
+static size_t room_of(size_t n) { return n < 2500 ? 8192 : ROOM; }
+
+size_t LLVMFuzzerMutate(uint8_t *data, size_t size, size_t max_size);
+
+static void must(int holds, const char *what) {
+    if (!holds) {
+        fprintf(stderr, "does not hold: %s\n", what);
+        abort();
+    }
+}
+
+static int is_number(uint32_t n) { return n == 0 || (n >= 1 && n <= 4) || (n >= 11 && n <= 22); }
+
+// All bytes of `out` from `from` on are as they were filled.
+static int untouched(const uint8_t *out, size_t from, size_t all) {
+    for (size_t i = from; i < all; i++)
+        if (out[i] != 0xa5)
+            return 0;
+    return 1;
+}
+
+static size_t report(const uint8_t *in, size_t n, uint8_t *out, size_t room, uint32_t answer[5]) {
+    memset(out, 0xa5, room_of(n));
+    memset(answer, 0xff, 5 * sizeof answer[0]);
+    return bithoven_report(in, n, out, room, answer);
+}
+
+// The text: its first bytes say the answer, its last byte is 10, and it says what `answer` says.
+static void judge_text(const uint8_t *text, size_t n, const uint32_t answer[5]) {
+    char due[80];
+    must(n > 3 && text[n - 1] == 10, "a text ends in byte 10");
+    must(memcmp(text, answer[0] == 0 ? "A," : "R,", 2) == 0, "a text opens with its answer");
+    if (answer[0] == 0)
+        return;
+    int m = snprintf(due, sizeof due, "R,%u,%u,%u,%u,%u\n", answer[0], answer[1], answer[2], answer[3], answer[4]);
+    must((size_t)m == n && memcmp(text, due, n) == 0, "a refusal's text is its answer");
+}
+
+static void examine(const uint8_t *in, size_t n) {
+    static uint8_t out[ROOM], again[ROOM];
+    uint32_t checked[5], reported[5], short_of[5];
+    memset(checked, 0xff, sizeof checked);
+    uint32_t r = bithoven_check(in, n, checked);
+    must(r == checked[0] && is_number(r), "Check gives a number of document 01");
+    must(r != 0 || (checked[1] | checked[2] | checked[3] | checked[4]) == 0, "acceptance has no location");
+    must((n > 32768) == (r == 1), "1 exactly if the listing is too long");
+    size_t all = room_of(n), size = report(in, n, out, all, reported);
+    must(memcmp(checked, reported, sizeof checked) == 0, "Report answers as Check");
+    must(size > 0 && size <= all && untouched(out, size, all), "bytes past the text are untouched");
+    judge_text(out, size, reported);
+    must(report(in, n, again, size, reported) == size && memcmp(out, again, all) == 0, "an exact output is enough");
+    must(report(in, n, again, size - 1, short_of) == 0 && short_of[0] == 6 && untouched(again, 0, all), "6, and nothing written");
+}
+
+// ---- the guide
+
+static volatile uint32_t seen;
+
+static const uint8_t *field(const uint8_t *p, const uint8_t *end, uint32_t *value) {
+    uint32_t v = 0;
+    while (p < end && *p != ',' && *p != 10) {
+        v = v * 10 + (uint32_t)(*p - '0');
+        p++;
+    }
+    *value = v;
+    return p < end && *p == ',' ? p + 1 : p;
+}
+
+// How many parts the line announces; its kind is kept for the fuzzer's count of branches.
+static uint32_t parts(const uint8_t *p, const uint8_t *end) {
+    uint32_t f[8] = {0};
+    const uint8_t letter = *p;
+    p = p + 1 < end && p[1] == ',' ? p + 2 : p + 1;
+    for (int i = 0; i < 8 && p < end && *p != 10; i++)
+        p = field(p, end, &f[i]);
+    switch (letter) {
+    case 'T': seen = 1; return f[1] <= 32 ? f[1] + 1 : 0;
+    case 'D': seen = 2; return f[0] <= 32 ? f[0] : 0;
+    case 'P': seen = 3; return 0;
+    case 'B': seen = 4; return f[0] <= 1024 ? f[0] : 0;
+    case 'I': seen = 5; return f[4] == 1 ? 3 : 2;
+    case 'L': seen = 6 + (f[4] & 1); return 0;
+    case 'V': seen = 8; return 1;
+    case 'E': seen = 9; return 1;
+    case 'v': seen = 10; return 0;
+    case 'n': seen = 11; return 0;
+    case 'b': seen = 12; return 0;
+    case 's': seen = 13; return 0;
+    case 'l': seen = 14; return 2;
+    case 'c': seen = 15; return 2;
+    case 'm': seen = 16; return 2;
+    case 'u': seen = 17; return 1;
+    case 'h': seen = 18; return 1;
+    case 'z': seen = 19; return 1;
+    case 'g': seen = 20; return 1;
+    case 'S': seen = 21; return 2;
+    case 'M': seen = 22; return f[5] <= 64 ? f[5] : 0;
+    default: seen = 23; return 0;
+    }
+}
+
+// Follows the lines by what is due; a branch for each count of lines that come to something.
+static void follow(const uint8_t *in, size_t n) {
+    const uint8_t *p = in, *end = in + n;
+    uint32_t due = 1, lines = 0;
+    while (p < end && due > 0 && lines < 1024) {
+        due = due - 1 + parts(p, end);
+        lines++;
+        while (p < end && *p != 10)
+            p++;
+        p++;
+    }
+    if (lines > 4) seen = 30;
+    if (lines > 8) seen = 31;
+    if (lines > 16) seen = 32;
+    if (lines > 64) seen = 33;
+    if (due == 0) seen = 34;
+    if (due == 0 && p >= end) seen = 35;
+    if (due == 0 && p >= end && lines > 12) seen = 36;
+    if (due == 0 && p >= end && lines > 24) seen = 37;
+}
+
+int LLVMFuzzerTestOneInput(const uint8_t *data, size_t size) {
+    // an exact copy, so that a read past the end is one past the end of an allocation
+    uint8_t *listing = malloc(size ? size : 1);
+    if (size)
+        memcpy(listing, data, size);
+    follow(listing, size);
+    examine(listing, size);
+    must(size == 0 || memcmp(listing, data, size) == 0, "the listing is untouched");
+    free(listing);
+    return 0;
+}
+
+// ---- mutations of lines
+
+static size_t line_at(const uint8_t *data, size_t size, size_t at) {
+    while (at > 0 && data[at - 1] != 10)
+        at--;
+    (void)size;
+    return at;
+}
+
+static size_t line_end(const uint8_t *data, size_t size, size_t at) {
+    while (at < size && data[at] != 10)
+        at++;
+    return at < size ? at + 1 : size;
+}
+
+static size_t drop_line(uint8_t *data, size_t size, size_t at) {
+    size_t a = line_at(data, size, at), e = line_end(data, size, at);
+    memmove(data + a, data + e, size - e);
+    return size - (e - a);
+}
+
+static size_t double_line(uint8_t *data, size_t size, size_t max, size_t at) {
+    size_t a = line_at(data, size, at), e = line_end(data, size, at), n = e - a;
+    if (size + n > max)
+        return size;
+    memmove(data + e, data + a, size - a);
+    return size + n;
+}
+
+// Another digit in place of one: small numbers count, say types and positions.
+static size_t other_digit(uint8_t *data, size_t size, size_t at, unsigned seed) {
+    for (size_t i = 0; i < size; i++) {
+        size_t k = (at + i) % size;
+        if (data[k] >= '0' && data[k] <= '9') {
+            data[k] = (uint8_t)('0' + seed % 10);
+            break;
+        }
+    }
+    return size;
+}
+
+static size_t other_letter(uint8_t *data, size_t size, size_t at, unsigned seed) {
+    static const char letters[] = "TDPBILVEvnbslcmuhzgSM";
+    data[line_at(data, size, at)] = (uint8_t)letters[seed % (sizeof letters - 1)];
+    return size;
+}
+
+size_t LLVMFuzzerCustomMutator(uint8_t *data, size_t size, size_t max, unsigned seed) {
+    if (size == 0 || seed % 4 == 0)
+        return LLVMFuzzerMutate(data, size, max);
+    size_t at = (seed >> 8) % size;
+    switch ((seed >> 4) % 4) {
+    case 0: return drop_line(data, size, at);
+    case 1: return double_line(data, size, max, at);
+    case 2: return other_letter(data, size, at, seed >> 16);
+    default: return other_digit(data, size, at, seed >> 16);
+    }
+}
