@@ -26,6 +26,16 @@ pub fn mark(target: u8, literal: &[u8]) -> bool {
     }
 }
 
+/// Has the literal the digits, the length and the first byte of a key of the target, be it on the curve or not?
+#[cfg(feature = "examiner")]
+pub fn has_shape(target: u8, literal: &[u8]) -> bool {
+    match unhex(literal) {
+        None => false,
+        Some(bytes) if target == TAPROOT => bytes.len() == 32,
+        Some(bytes) => bytes.len() == 33 && matches!(bytes[0], 2 | 3),
+    }
+}
+
 /// Gives every literal of a contract its true mark.
 pub fn set_marks(contract: &mut Contract) {
     let target = contract.target;

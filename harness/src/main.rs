@@ -1,8 +1,12 @@
 //! Compares the examiner of spending contracts with the original `analyze`. See README.md.
 
 mod aimed;
+#[cfg(feature = "examiner")]
+mod bench;
 mod case;
 mod cases;
+#[cfg(feature = "examiner")]
+mod compare;
 mod deep;
 mod embed;
 mod good;
@@ -28,15 +32,24 @@ const USAGE: &str = "usage: run vectors --sources SOURCES --seed NUMBER --out FO
        run deep --sources SOURCES --out FOLDER
        run check --sources SOURCES --stored FOLDER
        run answer --sources SOURCES < LISTING
-       run reading --sources SOURCES --stored FILE";
+       run reading --sources SOURCES --stored FILE
+       run compare --sources SOURCES --seed NUMBER --count NUMBER [--library FILE] [--plant NUMBER]
+       run bench --sources SOURCES [--library FILE]";
+
+/// The value after an option, if the option is there.
+fn maybe(arguments: &[String], name: &str) -> Option<String> {
+    let place = arguments.iter().position(|a| a == name);
+    place.and_then(|i| arguments.get(i + 1)).cloned()
+}
 
 /// The value after an option.
 fn option(arguments: &[String], name: &str) -> String {
-    let place = arguments.iter().position(|a| a == name);
-    match place.and_then(|i| arguments.get(i + 1)) {
-        Some(value) => value.clone(),
-        None => fail(&format!("{name} is missing\n{USAGE}")),
-    }
+    maybe(arguments, name).unwrap_or_else(|| fail(&format!("{name} is missing\n{USAGE}")))
+}
+
+/// The number after an option.
+fn number(arguments: &[String], name: &str) -> u64 {
+    option(arguments, name).parse().unwrap_or_else(|_| fail(&format!("{name} wants a number")))
 }
 
 fn fail(text: &str) -> ! {
@@ -52,8 +65,7 @@ fn main() {
     let arguments: Vec<String> = std::env::args().skip(1).collect();
     match arguments.first().map(String::as_str) {
         Some("vectors") => {
-            let seed = option(&arguments, "--seed").parse().unwrap_or_else(|_| fail("--seed wants a number"));
-            store(vectors::rules(seed), &option(&arguments, "--out"));
+            store(vectors::rules(number(&arguments, "--seed")), &option(&arguments, "--out"));
         }
         Some("deep") => {
             let mut suite = Suite::new(0);
@@ -70,6 +82,17 @@ fn main() {
             Ok(count) => println!("{count} listings are read as stored"),
             Err(text) => fail(&text),
         },
+        #[cfg(feature = "examiner")]
+        Some("compare") => {
+            let plant = maybe(&arguments, "--plant").map(|_| number(&arguments, "--plant") as u8);
+            let count = number(&arguments, "--count") as usize;
+            match compare::run(number(&arguments, "--seed"), count, plant) {
+                Ok(totals) => println!("{totals}"),
+                Err(text) => fail(&text),
+            }
+        }
+        #[cfg(feature = "examiner")]
+        Some("bench") => bench::run(&arguments).unwrap_or_else(|text| fail(&text)),
         _ => fail(USAGE),
     }
 }

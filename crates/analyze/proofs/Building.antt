@@ -1,9 +1,9 @@
 -- The tables of all paths, built one after another.
-use Prim.Native.Nat.{ℕ, zero, suc, _+_, _/_, _-_, _≤_, _<_}
+use Prim.Native.Nat.{ℕ, zero, suc, _+_, _-_, _≤_, _<_}
 use native.Mathlib.Numerals.{add-one}
 use native.Mathlib.Omega.{arith}
 use mathlib.Core.Bool.{Bool, true, false}
-use mathlib.Core.List.{List, [], _∷_, _++_, append-assoc, append-nil, map}
+use mathlib.Core.List.{List, [], _∷_, _++_, append-assoc, append-nil}
 use mathlib.Core.Option.{none}
 use mathlib.Core.Path.{_≡_, refl, sym, ap, _∙_, subst}
 use borrow.Author.Tests.{eqb-true, eqb-false}
@@ -17,15 +17,14 @@ use Rattle.rules.specs.Result.{Result, ok, err, _>>=_}
 use Rattle.rules.specs.Table.{Table, params, among, enter, build, buildAll}
 use Rattle.names.specs.Items.{ItemsAt, itemsDown}
 use Rattle.usage.specs.declared.NamePlace.{NamePlace}
-use Rattle.usage.specs.declared.Path.{Path}
 use Rattle.usage.specs.declared.Used.{Used}
 use Rattle.names.proofs.Laws.{items-are}
 use Rattle.usage.specs.Tables.{Built}
-use Rattle.usage.specs.Path.{tableFrom, tableOf, WellFormed}
+use Rattle.usage.specs.Path.{tableOf, WellFormed}
 use Rattle.analyze.specs.declared.Declared.{Declared}
 use Rattle.analyze.specs.Items.{Items, DeclaredAs, Given}
 use Rattle.analyze.specs.State.{pathAt, tablesFrom, tablesOf, PathReady, Ready, branchIn, noneTaken, noRows, OnlyFault, Moved, passed, started}
-use Rattle.analyze.proofs.State.{passed-says, passed-zero, none-taken-at, moved-refused, other-path, same-path}
+use Rattle.analyze.proofs.State.{passed-says, passed-zero, none-taken-at, moved-refused, path-count, other-path, same-path}
 use Rattle.analyze.proofs.Walking.{result-pass}
 
 -- what is built has the declaration's items
@@ -48,26 +47,6 @@ enter-params met (p ∷ ps) {t} h = first (among (p .identifier) met) refl (λ u
 build-params : (d : Declaration) {t : Table} → build d ≡ ok t → params t ≡ fromTop d
 unfolding build
 build-params d h = enter-params [] (fromTop d) h
-
--- a path has as many entries as items
-entries : (s t : List ℕ) (qs : List NamePlace) (x n : ℕ) → n ≤ length qs → length (tableFrom s t qs x n) ≡ n
-unfolding tableFrom
-entries s t [] x n h = omega arith
-entries s t (q ∷ qs) x zero h = refl
-entries s t (q ∷ qs) x (suc n) h = ap suc (entries s t qs (x / 2) n (omega arith))
-
-length-map : {A B : Type 0} (f : A → B) (l : List A) → length (map f l) ≡ length l
-length-map f [] = refl
-length-map f (x ∷ l) = ap suc (length-map f l)
-
-length-down : (s t : List ℕ) (i n : ℕ) → length (itemsDown s t i n) ≡ n
-unfolding itemsDown
-length-down s t i zero = refl
-length-down s t i (suc n) = ap suc (length-down s t i n)
-
-pub path-count : (s t : List ℕ) (p : Path) (first n : ℕ) → WellFormed s t p → params (tableOf s t p) ≡ itemsDown s t first n → p .count ≡ n
-unfolding tableOf
-path-count s t p first n w e = sym (entries s t (p .places) (p .taken) (p .count) (omega (arith, w .full, w .few))) ∙ sym (length-map (λ x. x .param) (tableOf s t p)) ∙ ap length e ∙ length-down s t first n
 
 -- the tables of the first paths
 module _ (s t : List ℕ) (d : Declared) where

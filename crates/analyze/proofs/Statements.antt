@@ -1,9 +1,9 @@
 -- The statements of a block: what the walk over them answers, from what its steps answer.
-use Prim.Native.Nat.{ℕ, zero, suc, _+_, _-_, _≤_, _<_}
+use Prim.Native.Nat.{ℕ, suc, _+_, _-_, _≤_, _<_}
 use native.Mathlib.Numerals.{add-one}
 use native.Mathlib.Omega.{arith}
 use mathlib.Core.Bool.{Bool, true, false}
-use mathlib.Core.List.{List, [], _∷_}
+use mathlib.Core.List.{List, _∷_}
 use mathlib.Core.Option.{some}
 use mathlib.Core.Path.{_≡_, refl, sym, ap, _∙_, subst}
 use borrow.Author.Tests.{ltb-true, ltb-false}
@@ -11,13 +11,9 @@ use lib.Dec.{ltb}
 use lib.ListN.{length, getD, set, getElem?}
 use Rattle.ast.specs.declared.Target.{Target}
 use Rattle.ast.specs.declared.Location.{Location}
-use Rattle.ast.specs.declared.LocktimeOp.{LocktimeOp}
-use Rattle.ast.specs.declared.Signed.{Signed}
 use Rattle.ast.specs.declared.ErrorKind.the-variants.{DeclarationPathMismatch}
 use Rattle.ast.specs.declared.CompileError.{CompileError}
-use Rattle.ast.specs.declared.Checked.{Checked}
-use Rattle.ast.specs.declared.Checked.the-variants.{Ok, Err}
-use Rattle.ast.specs.Tree.{Expression, Statement, IfStatement, LocktimeStatement, VerifyStatement, ExpressionStatement, Block, []ᵇ, _∷ᵇ_}
+use Rattle.ast.specs.Tree.{Expression, Statement, IfStatement, Block, []ᵇ, _∷ᵇ_}
 use Rattle.listing.specs.declared.Line.{Line}
 use Rattle.listing.specs.declared.StatementLine.{StatementLine}
 use Rattle.reader.specs.Spells.{SpellsExpression, SpellsStatement, SpellsBlock, SpellsStatements}
@@ -28,14 +24,13 @@ use Rattle.nodes.specs.Stands.{ExpressionAt, StatementAt, BlockAt}
 use Rattle.nodes.proofs.Laws.{below}
 use Rattle.rules.specs.Result.{Result, ok, err, _>>=_, _>>_}
 use Rattle.rules.specs.Table.{Table}
-use Rattle.rules.specs.Limits.{wait}
 use Rattle.rules.specs.Walk.{Walked as Walk, tableAt, examineAt, cross, walkStatement, walk}
 use Rattle.usage.specs.declared.NamePlace.{NamePlace}
 use Rattle.usage.specs.declared.Path.{Path}
 use Rattle.usage.specs.Path.{tableOf}
 use Rattle.analyze.specs.declared.Declared.{Declared}
-use Rattle.analyze.specs.State.{pathAt, tablesOf, Ready, faultIn, branchIn, outcome, OnlyFault, Moved, examined, waited, passed}
-use Rattle.analyze.proofs.State.{passed-says, passed-zero, moved-refused, outcome-pass, outcome-fault, table-at, table-past}
+use Rattle.analyze.specs.State.{pathAt, tablesOf, tablesWith, Ready, faultIn, branchIn, outcome, Moved, examined, passed}
+use Rattle.analyze.proofs.State.{passed-says, passed-zero, outcome-pass, outcome-fault, element-set, set-past, table-at, table-past}
 
 -- the same step under another name of its result
 pub moved-as : {s t : List ℕ} {d : Declared} {w v : Result Walk} {j k : ℕ} {rows : List (List NamePlace)} {taken out : List ℕ} → Moved s t d w j rows taken out → w ≡ v → j ≡ k → Moved s t d v k rows taken out
@@ -56,18 +51,6 @@ pub moved-end : {s t : List ℕ} (d : Declared) (rows : List (List NamePlace)) (
 moved-end {s} {t} d rows taken out {whole} {i} out′ full r e q =
     let p = passed-says out i (tablesOf s t d rows taken) full in
     record { result = ap (outcome (tablesOf s t d rows taken)) q ∙ p .0 ∙ sym (e .0); full = ap length q ∙ p .2; next = λ z. ap (λ o. getD o 5 0) q ∙ p .1 ∙ e .1; ready = λ z. r; refused = λ z. absurd (z (ap (λ o. getD o 0 0) q ∙ passed-zero out i full)) }
-
--- a wait
-module _ {s t : List ℕ} {d : Declared} (l : Location) (o : LocktimeOp) (v : Signed) where
-  pub wait-refused : (ts : List Table) (n : ℕ) {c : Checked} {x : CompileError} → c ≡ wait l o v → c ≡ Err x → (j : ℕ) {rows : List (List NamePlace)} {taken out : List ℕ} → OnlyFault x rows taken out → Moved s t d (waited l o v ts n) j rows taken out
-  wait-refused ts n said e j f = moved-refused f (rw (sym said ∙ e))
-
-  pub wait-passed : (rows : List (List NamePlace)) (taken out : List ℕ) {c : Checked} → c ≡ wait l o v → c ≡ Ok → (j : ℕ) (out′ : List ℕ) → length out ≡ 7 → Ready s t d rows taken → out′ ≡ passed out j → Moved s t d (waited l o v (tablesOf s t d rows taken) (branchIn out)) j rows taken out′
-  wait-passed rows taken out said e j out′ full r q = moved-end d rows taken out out′ full r (rw (sym said ∙ e), refl) q
-
-  pub wait-moves : {x : Statement} {m : ℕ} (ts : List Table) (n : ℕ) {i j : ℕ} {rows : List (List NamePlace)} {taken out : List ℕ} → x ≡ LocktimeStatement l m o v → j ≡ suc i → Moved s t d (waited l o v ts n) (i + 1) rows taken out → Moved s t d (walkStatement x (d .target) ts n) j rows taken out
-  unfolding walkStatement
-  wait-moves ts n {i} h k m = moved-as m (ap (λ y. walkStatement y (d .target) ts n) (sym h)) (add-one i ∙ sym k)
 
 -- a condition that passed: the table after it, and the path in use
 pub record Passed (g : Target) (l : Location) (e : Expression) (ts : List Table) (n : ℕ) (w : Walk) : Type 0 where
@@ -135,12 +118,6 @@ if-parts L s l true i x j (a, b, c, k, m, u, v, w, e) = record {
   rest = (c, w, λ g ts n v y p q. ap (λ x. walkStatement x g ts n) e ∙ rw (p, q, walkStatement));
 }
 
--- the table of a path that was put back
-element-set : {A : Type 0} (xs : List A) (i : ℕ) (v y : A) → getElem? xs i ≡ some y → getElem? (set xs i v) i ≡ some v
-element-set [] i v y h = let z : _≡_ {A = ℕ} 0 1 = cc in absurd (omega arith)
-element-set (x ∷ xs) zero v y h = refl
-element-set (x ∷ xs) (suc i) v y h = element-set xs i v y h
-
 -- after a condition that passed: the tables are those of the rows, and the path's own is the one after the condition
 pub record Conditioned (s t : List ℕ) (d : Declared) (l : Location) (e : Expression) (ts : List Table) (n : ℕ) (rows : List (List NamePlace)) (taken out : List ℕ) : Type 0 where
   pub is : examineAt (d .target) l e ts n ≡ ok (tableOf s t (pathAt d rows taken n))
@@ -149,25 +126,30 @@ pub record Conditioned (s t : List ℕ) (d : Declared) (l : Location) (e : Expre
   pub within : n < d .count
 
 -- a path that is examined is one of those declared
-path-within : (s t : List ℕ) (d : Declared) (l : Location) (e : Expression) (rows : List (List NamePlace)) (taken : List ℕ) (n : ℕ) {v : Table} → examineAt (d .target) l e (tablesOf s t d rows taken) n ≡ ok v → n < d .count
+path-within : (s t : List ℕ) (d : Declared) (l : Location) (e : Expression) (rows : List (List NamePlace)) (taken : List ℕ) (n : ℕ) (p : Path) {v : Table} → examineAt (d .target) l e (tablesWith s t d rows taken n p) n ≡ ok v → n < d .count
 unfolding examineAt tableAt
-path-within s t d l e rows taken n {v} h = go (ltb n (d .count)) refl
+path-within s t d l e rows taken n p {v} h = go (ltb n (d .count)) refl
   where
     go : (b : Bool) → ltb n (d .count) ≡ b → n < d .count
     go true q = ltb-true n (d .count) q
-    go false q = let f : _≡_ {A = Result Table} (err (record { loc = l; kind = DeclarationPathMismatch })) (ok v) = rw (table-past s t d rows taken n (ltb-false n (d .count) q), tableAt) at h in let o : _≡_ {A = ℕ} 0 1 = cc in absurd (omega arith)
+    go false q =
+        let past = table-past s t d rows taken n (ltb-false n (d .count) q) in
+        let f : _≡_ {A = Result Table} (err (record { loc = l; kind = DeclarationPathMismatch })) (ok v) = rw (set-past (tablesOf s t d rows taken) n (tableOf s t p) past, past, tableAt) at h in
+        let o : _≡_ {A = ℕ} 0 1 = cc in absurd (omega arith)
 
-pub conditioned : (s t : List ℕ) (d : Declared) (l : Location) (e : Expression) (rows₀ : List (List NamePlace)) (taken₀ : List ℕ) (n : ℕ) {j : ℕ} {rows : List (List NamePlace)} {taken out : List ℕ} → Moved s t d (examined (d .target) l e (tablesOf s t d rows₀ taken₀) n) j rows taken out → getD out 0 0 ≡ 0 → Conditioned s t d l e (tablesOf s t d rows₀ taken₀) n rows taken out
-conditioned s t d l e rows₀ taken₀ n {j} {rows} {taken} {out} m z =
-    let p = examined-ok (d .target) l e (tablesOf s t d rows₀ taken₀) n (moved-on m z) in
-    let ts = ap (λ w. w .tables) (p .after) in
-    let inside : n < d .count = path-within s t d l e rows₀ taken₀ n (p .is) in
-    let same : some (tableOf s t (pathAt d rows taken n)) ≡ some (p .table) = sym (table-at s t d rows taken n inside) ∙ ap (λ ts. getElem? ts n) ts ∙ element-set (tablesOf s t d rows₀ taken₀) n (p .table) (tableOf s t (pathAt d rows₀ taken₀ n)) (table-at s t d rows₀ taken₀ n inside) in
-    let v : tableOf s t (pathAt d rows taken n) ≡ p .table = cc in
+pub conditioned : (s t : List ℕ) (d : Declared) (l : Location) (e : Expression) (rows₀ : List (List NamePlace)) (taken₀ : List ℕ) (n : ℕ) (p : Path) {j : ℕ} {rows : List (List NamePlace)} {taken out : List ℕ} → Moved s t d (examined (d .target) l e (tablesWith s t d rows₀ taken₀ n p) n) j rows taken out → getD out 0 0 ≡ 0 → Conditioned s t d l e (tablesWith s t d rows₀ taken₀ n p) n rows taken out
+conditioned s t d l e rows₀ taken₀ n p {j} {rows} {taken} {out} m z =
+    let was = tablesWith s t d rows₀ taken₀ n p in
+    let P = examined-ok (d .target) l e was n (moved-on m z) in
+    let ts = ap (λ w. w .tables) (P .after) in
+    let inside : n < d .count = path-within s t d l e rows₀ taken₀ n p (P .is) in
+    let there : getElem? was n ≡ some (tableOf s t p) = element-set (tablesOf s t d rows₀ taken₀) n (tableOf s t p) (tableOf s t (pathAt d rows₀ taken₀ n)) (table-at s t d rows₀ taken₀ n inside) in
+    let same : some (tableOf s t (pathAt d rows taken n)) ≡ some (P .table) = sym (table-at s t d rows taken n inside) ∙ ap (λ ts. getElem? ts n) ts ∙ element-set was n (P .table) (tableOf s t p) there in
+    let v : tableOf s t (pathAt d rows taken n) ≡ P .table = cc in
     record {
-      is = p .is ∙ ap ok (sym v);
-      tables = ap (set (tablesOf s t d rows₀ taken₀) n) v ∙ sym ts;
-      branch = ap (λ w. w .branch) (p .after);
+      is = P .is ∙ ap ok (sym v);
+      tables = ap (set was n) v ∙ sym ts;
+      branch = ap (λ w. w .branch) (P .after);
       within = inside;
     }
 
@@ -211,6 +193,9 @@ module _ {L : ℕ → Line} {s : List ℕ} {g : Target} {count k i j : ℕ} {who
   pub going-on : {m : ℕ} (w : Walk) → walkStatement (first .head) g ts n ≡ ok w → m ≡ first .mid → Going L s g (count - (k + 1)) m j whole (w .tables) (w .branch)
   unfolding walk
   going-on {m} w e q = record { block = first .tail; spells = subst (λ x. SpellsStatements L s (count - (k + 1)) x (first .tail) j) (sym q) (first .rest); same = sym (ap (λ b. walk b g ts n) (first .is) ∙ rw (e, walk)) ∙ h .same }
+
+pub going-as : {L : ℕ → Line} {s : List ℕ} {g : Target} {left i j : ℕ} {whole : Result Walk} {ts us : List Table} {n : ℕ} → Going L s g left i j whole ts n → us ≡ ts → Going L s g left i j whole us n
+going-as {g = g} {n = n} h e = record { block = h .block; spells = h .spells; same = ap (λ ts. walk (h .block) g ts n) e ∙ h .same }
 
 pub going-end : {L : ℕ → Line} {s : List ℕ} {g : Target} {left i j : ℕ} {whole : Result Walk} {ts : List Table} {n : ℕ} → Going L s g left i j whole ts n → left ≡ 0 → (whole ≡ ok (record { tables = ts; branch = n })) × (i ≡ j)
 unfolding walk
@@ -269,14 +254,6 @@ at-next {L} {s} {i} {j} {e} sp = subst (λ m. SpellsExpression L s m e j) (sym (
 pub operand-stands : {s t : List ℕ} {i : ℕ} (st : StatementAt s t i) {e : Expression} → SpellsExpression (lineIn t) s (suc i) e (st .next) → ExpressionAt s t (i + 1)
 operand-stands {s} {t} st sp = below (SpellsExpression (lineIn t) s) st (at-next sp) (omega arith)
 
-pub verify-moves : {s t : List ℕ} {d : Declared} {x : Statement} {l : Location} {e : Expression} (ts : List Table) (n : ℕ) {j : ℕ} {rows : List (List NamePlace)} {taken out : List ℕ} → x ≡ VerifyStatement l e → Moved s t d (examined (d .target) l e ts n) j rows taken out → Moved s t d (walkStatement x (d .target) ts n) j rows taken out
-unfolding examined walkStatement
-verify-moves {d = d} ts n h m = moved-as m (ap (λ y. walkStatement y (d .target) ts n) (sym h)) refl
-
-pub return-moves : {s t : List ℕ} {d : Declared} {x : Statement} {l : Location} {e : Expression} (ts : List Table) (n : ℕ) {j : ℕ} {rows : List (List NamePlace)} {taken out : List ℕ} → x ≡ ExpressionStatement l e → Moved s t d (examined (d .target) l e ts n) j rows taken out → Moved s t d (walkStatement x (d .target) ts n) j rows taken out
-unfolding examined walkStatement
-return-moves {d = d} ts n h m = moved-as m (ap (λ y. walkStatement y (d .target) ts n) (sym h)) refl
-
 -- the crossing from the path that was kept after the condition
-pub crossed-from : {s t : List ℕ} {d : Declared} (l : Location) (w : Walk) {k : ℕ} {rows : List (List NamePlace)} {taken out : List ℕ} {p q : Path} → p ≡ q → Moved s t d (cross l (tableOf s t p) w) k rows taken out → Moved s t d (cross l (tableOf s t q) w) k rows taken out
-crossed-from {s} {t} {d} l w {k} {rows} {taken} {out} e m = subst (λ p. Moved s t d (cross l (tableOf s t p) w) k rows taken out) e m
+pub crossed-from : {s t : List ℕ} {d : Declared} (l : Location) (w : Walk) {k : ℕ} {rows : List (List NamePlace)} {taken out : List ℕ} {v v′ : Table} → v ≡ v′ → Moved s t d (cross l v w) k rows taken out → Moved s t d (cross l v′ w) k rows taken out
+crossed-from {s} {t} {d} l w {k} {rows} {taken} {out} e m = subst (λ v. Moved s t d (cross l v w) k rows taken out) e m

@@ -1,6 +1,6 @@
 -- The state of the walk over the statements: the rows of name places, the taken sets, and the answer in numbers.
 use Prim.Native.Nat.{ℕ, zero, suc, _≤_, _<_}
-use mathlib.Core.Bool.{true, false}
+use mathlib.Core.Bool.{Bool, true, false}
 use mathlib.Core.List.{List, [], _∷_}
 use mathlib.Core.Path.{_≡_}
 use lib.Dec.{eqb}
@@ -11,17 +11,25 @@ use Rattle.ast.specs.Numbers.{kindFrom}
 use Rattle.ast.specs.declared.LocktimeOp.{LocktimeOp}
 use Rattle.ast.specs.declared.Signed.{Signed}
 use Rattle.ast.specs.declared.Target.{Target}
-use Rattle.ast.specs.Tree.{Declaration, Expression, fault, number}
+use Rattle.ast.specs.Tree.{Declaration, Expression, Statement, fault, number}
+use Rattle.listing.specs.declared.Line.{Line}
+use Rattle.listing.specs.declared.StatementLine.{StatementLine}
+use Rattle.rows.specs.Rows.{lineIn}
+use Rattle.nodes.specs.declared.Answer.{Answer}
+use Rattle.nodes.specs.declared.Answer.the-variants.{Pass, Fault}
 use Rattle.rules.specs.Result.{Result, ok, err, _>>=_, _>>_}
 use Rattle.rules.specs.Table.{Table, params, buildAll}
 use Rattle.rules.specs.Limits.{wait}
 use Rattle.rules.specs.Unused.{unusedAll}
-use Rattle.rules.specs.Walk.{Walked, examineAt}
+use Rattle.rules.specs.Walk.{Walked, examineAt, walkStatement}
 use Rattle.names.specs.Items.{ItemsAt, itemsDown}
 use Rattle.usage.specs.declared.NamePlace.{NamePlace}
 use Rattle.usage.specs.declared.Path.{Path}
+use Rattle.usage.specs.declared.Used.{Used}
 use Rattle.usage.specs.Path.{tableOf, noPlace, WellFormed}
 use Rattle.analyze.specs.declared.Declared.{Declared}
+use Rattle.analyze.specs.declared.walk.Step.{Step}
+use Rattle.analyze.specs.declared.walk.Stepped.{Stepped}
 
 -- the path p: its row of places, its count of items, its taken set
 abbrev pub pathAt : Declared → List (List NamePlace) → List ℕ → ℕ → Path
@@ -101,6 +109,40 @@ examined g l e ts n = examineAt g l e ts n >>= λ t. ok (record { tables = set t
 -- a wait: the tables stay as they are
 abbrev pub waited : Location → LocktimeOp → Signed → List Table → ℕ → Result Walked
 waited l o v ts n = wait l o v >> ok (record { tables = ts; branch = n })
+
+-- a path n that is declared can be used
+abbrev pub InUse : List ℕ → List ℕ → Declared → ℕ → Path → Type 0
+InUse s t d n p = n < d .count → PathReady s t (getD (d .firsts) n 0) (getD (d .counts) n 0) p
+
+-- the tables of all paths, that of path n being p's
+abbrev pub tablesWith : List ℕ → List ℕ → Declared → List (List NamePlace) → List ℕ → ℕ → Path → List Table
+tablesWith s t d rows taken n p = set (tablesOf s t d rows taken) n (tableOf s t p)
+
+-- rows and taken sets after the path p was put back as path n
+pub record PutBack (s t : List ℕ) (d : Declared) (n : ℕ) (p : Path) (rows : List (List NamePlace)) (taken : List ℕ) (rows′ : List (List NamePlace)) (taken′ : List ℕ) : Type 0 where
+  pub tables : tablesOf s t d rows′ taken′ ≡ tablesWith s t d rows taken n p
+  pub ready : Ready s t d rows′ taken′
+
+-- after a pass on path n, from p to q: the rule's result, and path n can still be used
+pub record OnPath (s t : List ℕ) (d : Declared) (n : ℕ) (p : Path) (w : List Table → ℕ → Result Walked) (q : Path) : Type 0 where
+  pub result : (rows : List (List NamePlace)) (taken : List ℕ) → w (tablesWith s t d rows taken n p) n ≡ ok (record { tables = tablesWith s t d rows taken n q; branch = n })
+  pub in-use : InUse s t d n q
+
+-- what a rule w answers on path n, whose table is p's, whatever the others are; after a pass the next row is j
+pub record Tried (s t : List ℕ) (d : Declared) (n : ℕ) (p : Path) (w : List Table → ℕ → Result Walked) (j : ℕ) (u : Used) : Type 0 where
+  pub passes : (m : ℕ) → u .answer ≡ Pass m → (m ≡ j) × OnPath s t d n p w (u .path)
+  pub stops : (x : CompileError) → u .answer ≡ Fault x → (rows : List (List NamePlace)) (taken : List ℕ) → w (tablesWith s t d rows taken n p) n ≡ err x
+
+-- what a rule's answer leaves to do
+unfoldable pub stepOf : Answer → Step
+stepOf (Pass n) = Step.Pass n
+stepOf (Fault x) = Step.Fault x
+
+-- a statement at row i: an if is left to walk, any other is walked
+pub record Told (s t : List ℕ) (d : Declared) (n : ℕ) (p : Path) (x : Statement) (i j : ℕ) (r : Stepped) : Type 0 where
+  pub passes : (m : ℕ) → r .step ≡ Step.Pass m → (m ≡ j) × OnPath s t d n p (walkStatement x (d .target)) (r .path)
+  pub stops : (y : CompileError) → r .step ≡ Step.Fault y → (rows : List (List NamePlace)) (taken : List ℕ) → walkStatement x (d .target) (tablesWith s t d rows taken n p) n ≡ err y
+  pub is-if : (l : Location) (h : Bool) → r .step ≡ Step.If l h → lineIn t i ≡ Line.Statement (StatementLine.IfStatement l h)
 
 -- numbers that say a pass to a row
 unfoldable pub passed : List ℕ → ℕ → List ℕ

@@ -1,7 +1,7 @@
 // The statements of a contract, walked over its rows.
 ghost use mathlib.Core.Path.{_≡_};
 ghost use mathlib.Core.List.{List};
-ghost use Prim.Native.Nat.{ℕ, _+_, _<_};
+ghost use Prim.Native.Nat.{ℕ, _<_, _≤_};
 ghost use lib.ListN.{length};
 ghost use Rattle.ast.specs.declared.ErrorKind.{ErrorKind};
 ghost use Rattle.ast.specs.Tree.{Expression, Statement, Block, fault};
@@ -9,10 +9,13 @@ ghost use Rattle.listing.specs.declared.Line.{Line};
 ghost use Rattle.listing.specs.declared.StatementLine.{StatementLine};
 ghost use Rattle.rows.specs.Rows.{lineIn};
 ghost use Rattle.reader.specs.Spells.{SpellsExpression, SpellsStatement, SpellsBlock};
+ghost use Rattle.nodes.specs.declared.Answer.{Answer};
 ghost use Rattle.nodes.specs.Stands.{ExpressionAt, StatementAt, BlockAt};
-ghost use Rattle.rules.specs.Walk.{cross as crossOf, walkStatement, walk};
+ghost use Rattle.rules.specs.Walk.{Walked, cross as crossOf, walkStatement, walk};
+ghost use Rattle.rules.specs.Result.{Result};
+ghost use Rattle.rules.specs.Table.{Table};
 ghost use Rattle.usage.specs.Path.{tableOf, WellFormed};
-ghost use Rattle.analyze.specs.State.{pathAt, tablesOf, noneTaken, noRows, refusal, OnlyFault, Ready, Moved, nextIn, branchIn, examined, waited, passed, turned};
+ghost use Rattle.analyze.specs.State.{pathAt, tablesOf, tablesWith, noneTaken, noRows, refusal, OnlyFault, Ready, InUse, PutBack, Tried, Told, Moved, nextIn, branchIn, examined, waited, stepOf, passed, turned};
 use crate::Declared;
 use crate::examine::examine;
 use ast::Checked;
@@ -22,6 +25,7 @@ use ast::Location;
 use ast::LocktimeOp;
 use ast::Signed;
 use ast::numbers::error_number;
+use limits::answer_of;
 use limits::check_wait;
 use listing::StatementLine;
 use nodes::Answer;
@@ -29,7 +33,21 @@ use nodes::block_at;
 use nodes::statement_at;
 use usage::NamePlace;
 use usage::Path;
+use usage::Used;
 use usage::transfer_prefix_consumption;
+
+// What a statement leaves to do: to go on at a row, to refuse, or to walk the if that it is.
+enum Step {
+    Pass(usize),
+    Fault(CompileError),
+    If(Location, bool),
+}
+
+// The path in use after a statement, and what is left to do.
+struct Stepped {
+    path: Path,
+    step: Step,
+}
 
 // The fault in numbers; no next row, no path in use.
 fn put_refusal(out: &mut [u32; 7], x: CompileError)
@@ -110,40 +128,90 @@ pub fn path_at(d: Declared, rows: [[NamePlace; 32]; 32], taken: &[u32; 32], p: u
     }
 }
 
+// The path in use as the rows have it, or one without items where no such path is declared.
+fn path_in_use(d: Declared, rows: [[NamePlace; 32]; 32], taken: &[u32; 32], branch: u32) -> Path
+    requires { ⌜ d .count ≤ 32 ⌝ }
+    ensures { λ r. ⌜ (branch < d .count → r ≡ pathAt d rows (now (taken .entry)) branch) ⌝ }
+{
+    if d.count <= branch {
+        return Path {
+            places: [NamePlace { row: 0, line: 0 }; 32],
+            count: 0,
+            taken: 0,
+        };
+    }
+    path_at(d, rows, taken, branch as usize)
+}
+
+// The path in use, put back among the rows.
+fn put_path(
+    d: Declared,
+    branch: u32,
+    path: Path,
+    rows: [[NamePlace; 32]; 32],
+    taken: &mut [u32; 32],
+) -> [[NamePlace; 32]; 32]
+    requires { ⌜ d .count ≤ 32 ⌝ }
+    ensures { λ r. ⌜ ((s t : List ℕ) → Ready s t d rows (now (taken .entry)) → InUse s t d branch path → PutBack s t d branch path rows (now (taken .entry)) r (now (taken .exit))) ⌝ }
+{
+    if d.count <= branch {
+        return rows;
+    }
+    let p = branch as usize;
+    let places = path.places;
+    let mut held = rows;
+    held[p] = places;
+    taken[p] = path.taken;
+    held
+}
+
+// A rule's answer on the path in use: the refusal, or the path put back.
+fn put_used(
+    d: Declared,
+    u: Used,
+    rows: [[NamePlace; 32]; 32],
+    taken: &mut [u32; 32],
+    out: &mut [u32; 7],
+) -> [[NamePlace; 32]; 32]
+    requires { ⌜ (d .count ≤ 32) × (length (now taken) ≡ 32) × (length (now out) ≡ 7) × ((m : ℕ) → u .answer ≡ Answer.Pass m → m < 4294967296) ⌝ }
+    ensures { λ r. ⌜ ((s t : List ℕ) (p : Path) (w : List Table → ℕ → Result Walked) (j : ℕ) → Ready s t d rows (now (taken .entry)) → Tried s t d (branchIn (now (out .entry))) p w j u → Moved s t d (w (tablesWith s t d rows (now (taken .entry)) (branchIn (now (out .entry))) p) (branchIn (now (out .entry)))) j r (now (taken .exit)) (now (out .exit))) ⌝ }
+{
+    let a = u.answer;
+    match a {
+        Answer::Fault(x) => refuse(taken, out, x),
+        Answer::Pass(next) => {
+            let branch = out[6];
+            put_pass(out, (next % 4294967296) as u32);
+            let path = u.path;
+            put_path(d, branch, path, rows, taken)
+        }
+    }
+}
+
 // The expression at row i, on the path in use.
 fn examine_at(
     listing: &[u8],
     table: &[u32],
     d: Declared,
     loc: Location,
+    branch: u32,
     i: u32,
-    rows: [[NamePlace; 32]; 32],
-    taken: &mut [u32; 32],
-    out: &mut [u32; 7],
-) -> [[NamePlace; 32]; 32]
-    requires { ⌜ ExpressionAt (now listing) (now table) i × Ready (now listing) (now table) d rows (now taken) × (length (now out) ≡ 7) ⌝ }
-    ensures { λ r. ⌜ ((e : Expression) (j : ℕ) → SpellsExpression (lineIn (now (table .entry))) (now (listing .entry)) i e j → Moved (now (listing .entry)) (now (table .entry)) d (examined (d .target) loc e (tablesOf (now (listing .entry)) (now (table .entry)) d rows (now (taken .entry))) (branchIn (now (out .entry)))) j r (now (taken .exit)) (now (out .exit))) ⌝ }
+    path: Path,
+) -> Used
+    requires { ⌜ ExpressionAt (now listing) (now table) i × InUse (now listing) (now table) d branch path × (d .count ≤ 32) ⌝ }
+    ensures { λ r. ⌜ ((e : Expression) (j : ℕ) → SpellsExpression (lineIn (now (table .entry))) (now (listing .entry)) i e j → Tried (now (listing .entry)) (now (table .entry)) d branch path (examined (d .target) loc e) j r) ⌝ }
 {
-    let branch = out[6];
     if d.count <= branch {
-        return refuse_path(loc, taken, out);
+        let x = CompileError {
+            loc,
+            kind: ErrorKind::DeclarationPathMismatch,
+        };
+        return Used {
+            path,
+            answer: Answer::Fault(x),
+        };
     }
-    let p = branch as usize;
-    let path = path_at(d, rows, taken, p);
-    let u = examine(listing, table, d, p, i as usize, path);
-    let a = u.answer;
-    match a {
-        Answer::Fault(x) => refuse(taken, out, x),
-        Answer::Pass(next) => {
-            put_pass(out, (next % 4294967296) as u32);
-            let after = u.path;
-            let places = after.places;
-            let mut held = rows;
-            held[p] = places;
-            taken[p] = after.taken;
-            held
-        }
-    }
+    examine(listing, table, d, branch as usize, i as usize, path)
 }
 
 // From the if-block to the next path, `from` being the path in use after the condition.
@@ -196,29 +264,63 @@ pub fn put_branch(out: &mut [u32; 7], branch: u32)
 }
 
 // A wait: on to the next row, or the refusal.
-fn analyze_wait(
-    loc: Location,
-    op: LocktimeOp,
-    v: Signed,
-    next: u32,
-    rows: [[NamePlace; 32]; 32],
-    taken: &mut [u32; 32],
-    out: &mut [u32; 7],
-) -> [[NamePlace; 32]; 32]
-    requires { ⌜ (length (now taken) ≡ 32) × (length (now out) ≡ 7) ⌝ }
-    ensures { λ r. ⌜ ((s t : List ℕ) (d : Declared) → Ready s t d rows (now (taken .entry)) → Moved s t d (waited loc op v (tablesOf s t d rows (now (taken .entry))) (branchIn (now (out .entry)))) next r (now (taken .exit)) (now (out .exit))) ⌝ }
+fn analyze_wait(loc: Location, op: LocktimeOp, v: Signed, next: usize, path: Path) -> Used
+    ensures { λ r. ⌜ ((s t : List ℕ) (d : Declared) (branch : ℕ) → InUse s t d branch path → Tried s t d branch path (waited loc op v) next r) ⌝ }
 {
     let c = check_wait(loc, op, v);
-    match c {
-        Checked::Err(x) => refuse(taken, out, x),
-        Checked::Ok => {
-            put_pass(out, next);
-            rows
-        }
+    let answer = answer_of(c, next);
+    Used { path, answer }
+}
+
+// A statement that is no if is walked.
+fn step_of(u: Used) -> Stepped
+    ensures { λ r. ⌜ r ≡ record { path = u .path; step = stepOf (u .answer) } ⌝ }
+{
+    let path = u.path;
+    let a = u.answer;
+    match a {
+        Answer::Pass(next) => Stepped {
+            path,
+            step: Step::Pass(next),
+        },
+        Answer::Fault(x) => Stepped {
+            path,
+            step: Step::Fault(x),
+        },
     }
 }
 
-// The statements of the block at row i.
+// The statement at row i, on the path in use; an if is left to walk.
+fn analyze_statement(
+    listing: &[u8],
+    table: &[u32],
+    d: Declared,
+    branch: u32,
+    i: u32,
+    path: Path,
+) -> Stepped
+    requires { ⌜ StatementAt (now listing) (now table) i × InUse (now listing) (now table) d branch path × (d .count ≤ 32) ⌝ }
+    ensures { λ r. ⌜ ((x : Statement) (j : ℕ) → SpellsStatement (lineIn (now (table .entry))) (now (listing .entry)) i x j → Told (now (listing .entry)) (now (table .entry)) d branch path x i j r) ⌝ }
+{
+    let line = statement_at(table, i as usize);
+    match line {
+        StatementLine::LocktimeStatement(w, op, v) => {
+            step_of(analyze_wait(w, op, v, (i + 1) as usize, path))
+        }
+        StatementLine::VerifyStatement(w) => {
+            step_of(examine_at(listing, table, d, w, branch, i + 1, path))
+        }
+        StatementLine::ExpressionStatement(w) => {
+            step_of(examine_at(listing, table, d, w, branch, i + 1, path))
+        }
+        StatementLine::IfStatement(w, e) => Stepped {
+            path,
+            step: Step::If(w, e),
+        },
+    }
+}
+
+// The statements of the block at row i. The path in use goes along by itself; the rows are copied at an if and at the end only.
 pub fn analyze_block(
     listing: &[u8],
     table: &[u32],
@@ -233,52 +335,38 @@ pub fn analyze_block(
 {
     let count = block_at(table, i as usize);
     let mut held = rows;
+    let mut path = path_in_use(d, rows, taken, out[6]);
     let mut next = i + 1;
     let mut k: u32 = 0;
     while k < count {
-        let after = analyze_statement(listing, table, d, next, held, taken, out);
-        held = after;
-        if out[0] != 0 {
-            return held;
-        }
-        next = out[5];
         k += 1;
+        let stepped = analyze_statement(listing, table, d, out[6], next, path);
+        let step = stepped.step;
+        match step {
+            Step::Fault(x) => {
+                return refuse(taken, out, x);
+            }
+            Step::Pass(n) => {
+                path = stepped.path;
+                next = (n % 4294967296) as u32;
+            }
+            Step::If(w, e) => {
+                let after = analyze_if(listing, table, d, w, e, next, path, held, taken, out);
+                held = after;
+                if out[0] != 0 {
+                    return held;
+                }
+                path = path_in_use(d, held, taken, out[6]);
+                next = out[5];
+            }
+        }
     }
+    let branch = out[6];
     put_pass(out, next);
-    held
+    put_path(d, branch, path, held, taken)
 }
 
-// The statement at row i.
-fn analyze_statement(
-    listing: &[u8],
-    table: &[u32],
-    d: Declared,
-    i: u32,
-    rows: [[NamePlace; 32]; 32],
-    taken: &mut [u32; 32],
-    out: &mut [u32; 7],
-) -> [[NamePlace; 32]; 32]
-    requires { ⌜ StatementAt (now listing) (now table) i × Ready (now listing) (now table) d rows (now taken) × (length (now out) ≡ 7) ⌝ }
-    ensures { λ r. ⌜ ((x : Statement) (j : ℕ) → SpellsStatement (lineIn (now (table .entry))) (now (listing .entry)) i x j → Moved (now (listing .entry)) (now (table .entry)) d (walkStatement x (d .target) (tablesOf (now (listing .entry)) (now (table .entry)) d rows (now (taken .entry))) (branchIn (now (out .entry)))) j r (now (taken .exit)) (now (out .exit))) ⌝ }
-{
-    let line = statement_at(table, i as usize);
-    match line {
-        StatementLine::LocktimeStatement(w, op, v) => {
-            analyze_wait(w, op, v, i + 1, rows, taken, out)
-        }
-        StatementLine::VerifyStatement(w) => {
-            examine_at(listing, table, d, w, i + 1, rows, taken, out)
-        }
-        StatementLine::ExpressionStatement(w) => {
-            examine_at(listing, table, d, w, i + 1, rows, taken, out)
-        }
-        StatementLine::IfStatement(w, e) => {
-            analyze_if(listing, table, d, w, e, i, rows, taken, out)
-        }
-    }
-}
-
-// An if at row i: its condition, its block, and the else-block on the paths that follow.
+// An if at row i: its condition on the path in use, its block, and the else-block on the paths that follow.
 fn analyze_if(
     listing: &[u8],
     table: &[u32],
@@ -286,19 +374,20 @@ fn analyze_if(
     loc: Location,
     has_else: bool,
     i: u32,
+    path: Path,
     rows: [[NamePlace; 32]; 32],
     taken: &mut [u32; 32],
     out: &mut [u32; 7],
 ) -> [[NamePlace; 32]; 32]
-    requires { ⌜ StatementAt (now listing) (now table) i × Ready (now listing) (now table) d rows (now taken) × (length (now out) ≡ 7) × (lineIn (now table) i ≡ Line.Statement (StatementLine.IfStatement loc «has_else»)) ⌝ }
-    ensures { λ r. ⌜ ((x : Statement) (j : ℕ) → SpellsStatement (lineIn (now (table .entry))) (now (listing .entry)) i x j → Moved (now (listing .entry)) (now (table .entry)) d (walkStatement x (d .target) (tablesOf (now (listing .entry)) (now (table .entry)) d rows (now (taken .entry))) (branchIn (now (out .entry)))) j r (now (taken .exit)) (now (out .exit))) ⌝ }
+    requires { ⌜ StatementAt (now listing) (now table) i × Ready (now listing) (now table) d rows (now taken) × (length (now out) ≡ 7) × InUse (now listing) (now table) d (branchIn (now out)) path × (lineIn (now table) i ≡ Line.Statement (StatementLine.IfStatement loc «has_else»)) ⌝ }
+    ensures { λ r. ⌜ ((x : Statement) (j : ℕ) → SpellsStatement (lineIn (now (table .entry))) (now (listing .entry)) i x j → Moved (now (listing .entry)) (now (table .entry)) d (walkStatement x (d .target) (tablesWith (now (listing .entry)) (now (table .entry)) d rows (now (taken .entry)) (branchIn (now (out .entry))) path) (branchIn (now (out .entry)))) j r (now (taken .exit)) (now (out .exit))) ⌝ }
 {
-    let branch = out[6];
-    let held = examine_at(listing, table, d, loc, i + 1, rows, taken, out);
+    let used = examine_at(listing, table, d, loc, out[6], i + 1, path);
+    let held = put_used(d, used, rows, taken, out);
     if out[0] != 0 {
         return held;
     }
-    let from = path_at(d, held, taken, branch as usize);
+    let from = used.path;
     let then = out[5];
     let after = analyze_block(listing, table, d, then, held, taken, out);
     if out[0] != 0 {

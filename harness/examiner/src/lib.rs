@@ -25,8 +25,7 @@ pub fn check(listing: &[u8]) -> (u32, Numbers) {
 pub fn report(listing: &[u8], output: &mut [u8]) -> (usize, Numbers) {
     let mut answer = UNWRITTEN;
     // SAFETY: the slices are as long as said and do not overlap, and the answer has five words.
-    let length = unsafe {
-        bithoven_report(listing.as_ptr(), listing.len(), output.as_mut_ptr(), output.len(), answer.as_mut_ptr())
-    };
+    let length =
+        unsafe { bithoven_report(listing.as_ptr(), listing.len(), output.as_mut_ptr(), output.len(), answer.as_mut_ptr()) };
     (length, answer)
 }

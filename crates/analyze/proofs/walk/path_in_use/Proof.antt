@@ -1,0 +1,16 @@
+use native.Mathlib.Omega.{arith}
+use borrow.Author.Needs.{needs}
+use Rattle.analyze.proofs.walk.path_in_use.Statement.{statement}
+use Rattle.analyze.proofs.walk.path_in_use.Tie as tie
+
+returns : tie.Need-returns
+returns c = λ h. absurd (omega (arith, h, c .if1 .taken))
+
+path-at-requires : tie.Need-path-at-requires
+path-at-requires c κs = search needs
+
+returns-2 : tie.Need-returns-2
+returns-2 c = λ h. c .path-at .ensures
+
+pub path-in-use-spec : {M : Type 1} → statement M
+path-in-use-spec = tie.close (tie.spec returns path-at-requires returns-2)

@@ -1,0 +1,187 @@
+//! Holds Check and Report against the original and the models, on one listing.
+
+use super::order;
+use super::question::{self, How};
+use super::stack;
+use crate::listing;
+use crate::oracle::Answer;
+use crate::tree::{Contract, Where};
+use examiner::Numbers;
+
+/// What a disagreement is about. While a listing is made smaller this stays.
+#[derive(Clone, Copy, Debug, PartialEq, Eq)]
+pub enum About {
+    /// Check and the reader of listing.rs, on numbers 1 to 4.
+    Reading,
+    /// Check and the original.
+    Original,
+    /// Check and the number that the case was made for.
+    Aim,
+    /// Acceptance and demand 3 by running.
+    Demand3,
+    /// What Check hands back twice, or zeros with acceptance.
+    Shape,
+    /// Report with an output that is long enough.
+    Report,
+    /// Report with an output that is too short.
+    ShortOutput,
+}
+
+/// Two answers that should be one.
+#[derive(Clone, Debug)]
+pub struct Disagreement {
+    pub about: About,
+    pub text: String,
+}
+
+/// What was seen where all agree.
+pub struct Seen {
+    /// Check's number.
+    pub number: u32,
+    /// How the original was asked; nothing if the listing cannot be read.
+    pub how: Option<How>,
+}
+
+/// What a made case expects: its number, and its place if it names one.
+pub type Due = (u8, Option<Where>);
+
+/// Pretends that the original never answers this number, to see that a disagreement is found.
+pub type Plant = Option<u8>;
+
+fn disagree<T>(about: About, text: String) -> Result<T, Disagreement> {
+    Err(Disagreement { about, text })
+}
+
+/// Holds everything against everything.
+pub fn judge(listing: &[u8], due: Option<Due>, plant: Plant) -> Result<Seen, Disagreement> {
+    let (returned, check) = examiner::check(listing);
+    if returned != check[0] || check[0] == 0 && check != [0; 5] {
+        return disagree(About::Shape, format!("Check returns {returned} and answers {check:?}"));
+    }
+    let (how, text) = match listing::read(listing) {
+        Err(refusal) => {
+            let expected = [u32::from(refusal.number), 0, 0, refusal.line, 0];
+            if check != expected {
+                return disagree(About::Reading, format!("Check {check:?}\nreader {expected:?}"));
+            }
+            (None, refusal_text(&check))
+        }
+        Ok(contract) => {
+            let how = original(&contract, &check, plant)?;
+            aim(&check, due)?;
+            (Some(how), demand_3(&contract, listing, &check)?)
+        }
+    };
+    reports(listing, &check, &text)?;
+    Ok(Seen { number: check[0], how })
+}
+
+/// Check's answer is the original's, wherever the original can be asked.
+fn original(contract: &Contract, check: &Numbers, plant: Plant) -> Result<How, Disagreement> {
+    let (answer, how) = question::ask(contract);
+    let expected = match answer {
+        None => return Ok(how),
+        Some(Answer::Accepted) => [0; 5],
+        Some(Answer::Refused(number, _)) if plant == Some(number) => [99, 0, 0, 0, 0],
+        Some(Answer::Refused(number, at)) => [u32::from(number), at.start, at.end, at.line, at.column],
+        Some(other) => return disagree(About::Original, format!("Check {check:?}\noriginal {other:?}")),
+    };
+    if *check != expected {
+        return disagree(About::Original, format!("Check {check:?}\noriginal {expected:?}, asked: {how:?}"));
+    }
+    Ok(how)
+}
+
+/// Check's answer is the one that the case was made for.
+fn aim(check: &Numbers, due: Option<Due>) -> Result<(), Disagreement> {
+    let Some((number, at)) = due else {
+        return Ok(());
+    };
+    let place = at.map(|at| [at.start, at.end, at.line, at.column]);
+    if check[0] != u32::from(number) || place.is_some_and(|place| check[1..] != place) {
+        return disagree(About::Aim, format!("Check {check:?}\ncase {number} at {at:?}"));
+    }
+    Ok(())
+}
+
+/// Check accepts exactly if all is in order and every path empties its stack. Gives the text that is due from Report.
+fn demand_3(contract: &Contract, listing: &[u8], check: &Numbers) -> Result<Vec<u8>, Disagreement> {
+    let accepted = check[0] == 0;
+    if !order::flow(&contract.block) {
+        return match accepted {
+            true => disagree(About::Demand3, format!("Check {check:?}\nmodel: flow is not in order")),
+            false => Ok(refusal_text(check)),
+        };
+    }
+    let paths = stack::paths(listing);
+    let counted = paths.count() == paths.declared();
+    let named = counted && order::names(contract);
+    let typed = named && order::types_and_limits(contract);
+    let empty = counted && paths.all_empty();
+    if accepted != (typed && empty) {
+        let model = format!("count {counted}, names {named}, types and limits {typed}, all paths empty {empty}");
+        return disagree(About::Demand3, format!("Check {check:?}\nmodel: {model}"));
+    }
+    Ok(if accepted { paths.report() } else { refusal_text(check) })
+}
+
+fn refusal_text(check: &Numbers) -> Vec<u8> {
+    let [number, start, end, line, column] = check;
+    format!("R,{number},{start},{end},{line},{column}\n").into_bytes()
+}
+
+/// What an output holds before Report.
+fn untouched(length: usize) -> Vec<u8> {
+    (0..length).map(|i| (i * 31 + 7) as u8).collect()
+}
+
+/// Report with room to spare, with just enough, with one byte too few, and with none.
+fn reports(listing: &[u8], check: &Numbers, text: &[u8]) -> Result<(), Disagreement> {
+    let spare = 1 + listing.len() % 97;
+    for room in [text.len() + spare, text.len(), text.len() - 1] {
+        report(listing, check, text, room)?;
+    }
+    if listing.len() % 16 == 0 {
+        report(listing, check, text, 0)?;
+    }
+    Ok(())
+}
+
+fn report(listing: &[u8], check: &Numbers, text: &[u8], room: usize) -> Result<(), Disagreement> {
+    let mut expected = untouched(room);
+    let mut output = expected.clone();
+    let (length, answer) = examiner::report(listing, &mut output);
+    let (about, due) = if room < text.len() {
+        (About::ShortOutput, (0, [6, 0, 0, 0, 0]))
+    } else {
+        expected[..text.len()].copy_from_slice(text);
+        (About::Report, (text.len(), *check))
+    };
+    if (length, answer) != due {
+        return disagree(about, format!("Report {answer:?}, length {length}\ndue {:?}, length {}", due.1, due.0));
+    }
+    if output != expected {
+        let show = |bytes: &[u8]| String::from_utf8_lossy(bytes).into_owned();
+        return disagree(about, format!("Report's output:\n{}\ndue:\n{}", show(&output), show(&expected)));
+    }
+    Ok(())
+}
+
+#[cfg(test)]
+mod tests {
+    use super::*;
+
+    const CONTRACT: &str = "T,0,2\nD,2\nP,0,1,1,0,2,p\nP,3,4,1,3,3,c\nD,2\nP,6,7,2,0,1,n\nP,9,10,2,3,3,c\nB,1\n\
+        I,20,60,3,0,1\nv,23,24,3,3,c\nB,1\nE,30,44,4,0\nc,37,44,4,7,0\nh,37,40,4,7,0\nv,38,39,4,8,p\n\
+        s,42,44,4,12,6161,0\nB,1\nE,50,58,6,0\nc,53,58,6,3,0\nv,53,54,6,3,n\nn,57,58,6,7,7\n";
+
+    /// Document 01, "One contract whole": the models give its report.
+    #[test]
+    fn one_contract_whole() {
+        let contract = listing::read(CONTRACT.as_bytes()).unwrap();
+        let text = demand_3(&contract, CONTRACT.as_bytes(), &[0; 5]).unwrap();
+        let expected = "A,2\nD,0,2\nP,0,3,1,10,c\nP,1,2,1,15,p\nD,1,2\nP,0,3,1,10,c\nP,1,1,1,20,n\n";
+        assert_eq!(String::from_utf8(text).unwrap(), expected);
+        assert!(demand_3(&contract, CONTRACT.as_bytes(), &[14, 0, 0, 1, 0]).is_err());
+    }
+}
