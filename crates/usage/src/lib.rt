@@ -40,12 +40,14 @@ use nodes::factor_at;
 use text::Place;
 
 // Where an item's name stands, as the number of its row, and the listing line that took the item (0 where none).
+#[repr(C)]
 pub struct NamePlace {
     pub row: u32,
     pub line: u32,
 }
 
 // A path's items, position 0 being the top; the taken positions are the ones of `taken`.
+#[repr(C)]
 pub struct Path {
     pub places: [NamePlace; 32],
     pub count: u32,
