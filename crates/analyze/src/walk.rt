@@ -2,7 +2,7 @@
 ghost use mathlib.Core.Path.{_≡_};
 ghost use mathlib.Core.List.{List};
 ghost use Prim.Native.Nat.{ℕ, _<_, _≤_};
-ghost use lib.ListN.{length};
+ghost use lib.ListN.{length, replicate};
 ghost use Rattle.ast.specs.declared.ErrorKind.{ErrorKind};
 ghost use Rattle.ast.specs.Tree.{Expression, Statement, Block, fault};
 ghost use Rattle.listing.specs.declared.Line.{Line};
@@ -14,7 +14,7 @@ ghost use Rattle.nodes.specs.Stands.{ExpressionAt, StatementAt, BlockAt};
 ghost use Rattle.rules.specs.Walk.{Walked, cross as crossOf, walkStatement, walk};
 ghost use Rattle.rules.specs.Result.{Result};
 ghost use Rattle.rules.specs.Table.{Table};
-ghost use Rattle.usage.specs.Path.{tableOf, WellFormed};
+ghost use Rattle.usage.specs.Path.{tableOf, WellFormed, noPlace};
 ghost use Rattle.analyze.specs.State.{pathAt, tablesOf, tablesWith, noneTaken, noRows, refusal, OnlyFault, Ready, InUse, PutBack, Tried, Told, Moved, nextIn, branchIn, examined, waited, stepOf, passed, turned};
 use crate::Declared;
 use crate::examine::examine;
@@ -132,6 +132,7 @@ pub fn path_at(d: Declared, rows: [[NamePlace; 32]; 32], taken: &[u32; 32], p: u
 fn path_in_use(d: Declared, rows: [[NamePlace; 32]; 32], taken: &[u32; 32], branch: u32) -> Path
     requires { ⌜ d .count ≤ 32 ⌝ }
     ensures { λ r. ⌜ (branch < d .count → r ≡ pathAt d rows (now (taken .entry)) branch) ⌝ }
+    ensures { λ r. ⌜ (d .count ≤ branch → r ≡ record { places = replicate 32 noPlace; count = 0; taken = 0 }) ⌝ }
 {
     if d.count <= branch {
         return Path {

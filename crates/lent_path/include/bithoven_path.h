@@ -1,8 +1,9 @@
-/* One path of a contract in the caller's memory: its items are taken and handed on there.
+/* A path of a listing in the caller's memory: its items are taken and handed on there.
  *
- * Link with liblent_path.a (x86-64; `rt staticlib lent_path` writes it to target/staticlib/). A call takes a few kB of stack.
- * Nothing is allocated or kept. No pointer may be null, and none may overlap another.
- */
+ * Link with liblent_path.a (x86-64; `rt staticlib lent_path` writes it to target/staticlib/).
+ *
+ * No function allocates, keeps state, or reads or writes anything but its arguments. No pointer may be null, not even with
+ * length 0, and none may overlap another. */
 #ifndef BITHOVEN_PATH_H
 #define BITHOVEN_PATH_H
 
@@ -13,37 +14,42 @@
 extern "C" {
 #endif
 
-/* An item's row (its P line, counted from 0) and the listing line that took it, 0 if none did. */
+/* An item: the number of its P line's row, which is its listing line less 1, and the listing line that took it. */
 struct bithoven_place {
     uint32_t row;
     uint32_t line;
 };
 
-/* A path: its items from the stack's top down, how many there are, and the positions taken as the ones of a number. */
+/* A path: `count` places from the stack's top, which is the last declared item; position k is taken if bit k of `taken` is
+ * 1. The caller makes one with lines 0 and `taken` 0. */
 struct bithoven_path {
     struct bithoven_place places[32];
     uint32_t count;
     uint32_t taken;
 };
 
-/* 0 and no location, or a refusal's number and location. */
+/* 0 and four zeros, or the number of a refusal with its location. */
 struct bithoven_answer {
-    uint32_t number, start, end, line, column;
+    uint32_t number;
+    uint32_t start;
+    uint32_t end;
+    uint32_t line;
+    uint32_t column;
 };
 
-/* The rows of a listing, for the calls below: work gets a row for each line. 1 to 5 as Check has them; work must have 16384
- * words, and a refusal but 5 leaves them zero. */
+/* The rows of a listing, in `work`, of which there must be 16384 words: the table that the two functions below take.
+ * Refuses with 1 to 5, as Check does; the first 16384 words are then zero (5: work is as it was). */
 struct bithoven_answer bithoven_rows(const uint8_t *listing, size_t listing_len, uint32_t *work, size_t work_len);
 
-/* The variable of row i is taken from the path: 12 unknown, 13 taken before, 15 not the top. 3 at 0,0,0,0 if `path` is no
- * path of these rows or row i is no variable's. A refusal leaves the path as it was. */
+/* The variable of row `row` (its listing line less 1) is taken from the path by that line. Refuses with 12, 13 or 15; and
+ * with 3, nowhere, if `path` is no path of these rows or the row is no variable's. A refusal leaves the path as it was. */
 struct bithoven_answer bithoven_take(struct bithoven_path *path, const uint8_t *listing, size_t listing_len,
-                                     const uint32_t *rows, size_t rows_len, size_t i);
+                                     const uint32_t *table, size_t table_len, size_t row);
 
-/* What is taken in `from` is taken in `to`, at the if of row i: 20 if it does not lie there in the same places. 3 at 0,0,0,0
- * if one is no path of these rows or row i is no if's. A refusal leaves `to` as it was. */
+/* What is taken in `from` is taken in `to` by the same lines, before the else-block of the if of row `row`. Refuses with 20
+ * at that if; and with 3, nowhere, if one is no path of these rows or the row is no if's. A refusal leaves `to` as it was. */
 struct bithoven_answer bithoven_transfer(struct bithoven_path *to, const uint8_t *listing, size_t listing_len,
-                                         const uint32_t *rows, size_t rows_len, size_t i, struct bithoven_path from);
+                                         const uint32_t *table, size_t table_len, size_t row, struct bithoven_path from);
 
 #ifdef __cplusplus
 }

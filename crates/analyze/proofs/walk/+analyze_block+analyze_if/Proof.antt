@@ -125,7 +125,7 @@ analyze-block-loop-holds t c =
     let s = a .listing .now in
     let t = a .table .now in
     let pre = c .before .before .before .before .before .before .pre .1 in
-    let load = c .path-in-use .ensures in
+    let load = c .path-in-use .ensures .0 in
     (omega arith, pre .1, pre .2, omega arith, in-use s t (a .d) (a .rows) (a .taken .now) (branchIn (a .out .now)) (pre .1) load, λ b j sp. record { block = b; spells = rw (add-one, sub-zero) (block-is sp (c .before .before .before .block-at .ensures)); same = ap (λ ts. walk b (a .d .target) ts (branchIn (a .out .now))) (tables-same s t (a .d) (a .rows) (a .taken .now) (branchIn (a .out .now)) (pre .1) load) })
 
 analyze-block-add-k : (t : ℕ) → analyze-block-lts.Need-add-k (analyze-block-calls t) (analyze-block-at t) analyze-block.Post analyze-block-Inv-loop analyze-block-μ-loop
@@ -241,7 +241,7 @@ analyze-block-loop-again-2 t c =
     let f = first h more in
     let z = c .before .before .before .before .if1 .left in
     let m = c .before .before .before .before .before .before .analyze-if .ensures (f .head) (f .mid) (f .spells) in
-    let load = c .before .path-in-use2 .ensures in (
+    let load = c .before .path-in-use2 .ensures .0 in (
       omega arith,
       m .ready z,
       m .full,

@@ -1,16 +1,17 @@
+use mathlib.Core.Path.{refl}
 use native.Mathlib.Omega.{arith}
 use borrow.Author.Needs.{needs}
 use Rattle.analyze.proofs.walk.path_in_use.Statement.{statement}
 use Rattle.analyze.proofs.walk.path_in_use.Tie as tie
 
 returns : tie.Need-returns
-returns c = λ h. absurd (omega (arith, h, c .if1 .taken))
+returns c = (λ h. absurd (omega (arith, h, c .if1 .taken)), λ h. refl)
 
 path-at-requires : tie.Need-path-at-requires
 path-at-requires c κs = search needs
 
 returns-2 : tie.Need-returns-2
-returns-2 c = λ h. c .path-at .ensures
+returns-2 c = (λ h. c .path-at .ensures, λ h. absurd (omega (arith, h, c .before .if1 .left)))
 
 pub path-in-use-spec : {M : Type 1} → statement M
 path-in-use-spec = tie.close (tie.spec returns path-at-requires returns-2)
