@@ -40,13 +40,10 @@ use Rattle.rules.proofs.Basics.{err≢ok, true≢false′, and-true}
 use Rattle.nodes.specs.declared.Answer.{Answer}
 use Rattle.nodes.specs.declared.Answer.the-variants.{Pass, Fault}
 use Rattle.names.specs.Items.{NamedRow, Inside}
-use Rattle.usage.specs.declared.Parts.{Parts}
-use Rattle.usage.specs.declared.Parts.the-variants.{Named, Nothing, One, Two, Signatures}
 use Rattle.usage.specs.declared.NamePlace.{NamePlace}
 use Rattle.usage.specs.declared.Path.{Path}
 use Rattle.usage.specs.declared.Used.{Used}
 use Rattle.usage.specs.Path.{tableOf, rowsOf, noPlace, WellFormed, SameItems, Walked}
-use Rattle.usage.specs.Walk.{partsOf}
 use Rattle.usage.proofs.Path as PathT
 use Rattle.usage.proofs.Path.Laws as PathL
 use Rattle.usage.proofs.Walks.{walked-ok, walked-err, same-items}
@@ -54,7 +51,7 @@ use Rattle.lent_path.specs.declared.Left.{Left}
 use Rattle.lent_path.specs.declared.Variable.{Variable as RowVariable}
 use Rattle.lent_path.specs.declared.Variable.the-variants.{At, Missing}
 use Rattle.lent_path.specs.declared.Branch.the-variants.{If, Other}
-use Rattle.lent_path.specs.Rows.{isInside, isRow, namedItem, isItem, isOwn, areItems, isPath, whereVariable, namedVariable, variableOf, variableIn, ifOf, ifIn}
+use Rattle.lent_path.specs.Rows.{nameOf, isInside, isRow, namedItem, isItem, isOwn, areItems, isPath, whereVariable, namedVariable, variableOf, variableIn, ifOf, ifIn}
 use Rattle.lent_path.specs.Lent.{answered, tableAfter, keptWith, kept, unfit, takeNamed, takeAt, transferFrom, transferAt, Kept}
 
 -- ---- a part of the listing
@@ -268,15 +265,15 @@ module _ (s t : List ℕ) (i : ℕ) where
       pub variable-none : (m : ExpressionLine) → l ≡ Expression m → OneOf (1 ∷ 2 ∷ 3 ∷ 4 ∷ 5 ∷ 6 ∷ 7 ∷ 8 ∷ 9 ∷ 10 ∷ []) (tagOf ExpressionLineT.the-type m) → variableIn s t i ≡ Missing
       variable-none m f k = variable-is h (sym e ∙ f) ∙ no-variable s m k
 
-      pub variable-here : {m : ExpressionLine} {w : Location} {x : Place} → l ≡ Expression m → m ≡ Variable w x → variableIn s t i ≡ namedVariable s (Named w x)
+      pub variable-here : {m : ExpressionLine} {w : Location} {x : Place} → l ≡ Expression m → m ≡ Variable w x → variableIn s t i ≡ namedVariable s (some (w, x))
       unfolding variableOf
       variable-here f g = variable-is h (sym e ∙ f ∙ ap Expression g)
 
-pub named-inside : (s : List ℕ) (w : Location) (x : Place) → isInside s x ≡ true → namedVariable s (Named w x) ≡ At w x
+pub named-inside : (s : List ℕ) (w : Location) (x : Place) → isInside s x ≡ true → namedVariable s (some (w, x)) ≡ At w x
 unfolding namedVariable
 named-inside s w x h = rw h
 
-pub named-outside : (s : List ℕ) (w : Location) (x : Place) → isInside s x ≡ false → namedVariable s (Named w x) ≡ Missing
+pub named-outside : (s : List ℕ) (w : Location) (x : Place) → isInside s x ≡ false → namedVariable s (some (w, x)) ≡ Missing
 unfolding namedVariable
 named-outside s w x h = rw h
 
@@ -306,22 +303,19 @@ where-at true v h = (refl, h)
 where-at false v h = let z : _≡_ {A = ℕ} 0 1 = cc in absurd (omega arith)
 
 -- a variable that was found: its name lies in the listing, and its listing line is a number of 32 bits
-named-at : (s : List ℕ) (w : Location) (x : Place) (a : Parts) → namedVariable s a ≡ At w x → isInside s x ≡ true
+named-at : (s : List ℕ) (w : Location) (x : Place) (a : Option (Location × Place)) → namedVariable s a ≡ At w x → isInside s x ≡ true
 unfolding namedVariable
-named-at s w x (Named w′ x′) h =
+named-at s w x none h = let z : _≡_ {A = ℕ} 0 1 = cc in absurd (omega arith)
+named-at s w x (some (w′, x′)) h =
     let k = where-at (isInside s x′) (At w′ x′) h in
     let j : At w′ x′ ≡ At w x = k .1 in
     let e : x′ ≡ x = cc in
     ap (isInside s) (sym e) ∙ k .0
-named-at s w x Nothing h = let z : _≡_ {A = ℕ} 0 1 = cc in absurd (omega arith)
-named-at s w x One h = let z : _≡_ {A = ℕ} 0 1 = cc in absurd (omega arith)
-named-at s w x Two h = let z : _≡_ {A = ℕ} 0 1 = cc in absurd (omega arith)
-named-at s w x Signatures h = let z : _≡_ {A = ℕ} 0 1 = cc in absurd (omega arith)
 
 of-at : (s : List ℕ) (w : Location) (x : Place) (o : Option ExpressionLine) → variableOf s o ≡ At w x → isInside s x ≡ true
 unfolding variableOf
 of-at s w x none h = let z : _≡_ {A = ℕ} 0 1 = cc in absurd (omega arith)
-of-at s w x (some l) h = named-at s w x (partsOf l) h
+of-at s w x (some l) h = named-at s w x (nameOf l) h
 
 pub variable-sound : (s t : List ℕ) (i : ℕ) (w : Location) (x : Place) → variableIn s t i ≡ At w x → Inside s x × (i + 1 < 4294967296)
 unfolding variableIn

@@ -14,11 +14,8 @@ use Rattle.listing.specs.declared.StatementLine.the-variants.{IfStatement, Lock
 use Rattle.listing.specs.declared.ExpressionLine.{ExpressionLine}
 use Rattle.listing.specs.Kinds.{itemLine, statementLine, expressionLine}
 use Rattle.rows.specs.Rows.{lineIn}
-use Rattle.usage.specs.declared.Parts.{Parts}
-use Rattle.usage.specs.declared.Parts.the-variants.{Named, Nothing, One, Two, Signatures}
 use Rattle.usage.specs.declared.Path.{Path}
 use Rattle.usage.specs.Path.{rowsOf}
-use Rattle.usage.specs.Walk.{partsOf}
 use Rattle.lent_path.specs.declared.Variable.{Variable}
 use Rattle.lent_path.specs.declared.Branch.{Branch}
 
@@ -55,17 +52,28 @@ abbrev pub whereVariable : Bool → Variable → Variable
 whereVariable true v = v
 whereVariable false v = Variable.Missing
 
+-- where a variable stands, and its name
+abbrev pub nameOf : ExpressionLine → Option (Location × Place)
+nameOf (ExpressionLine.Variable w x) = some (w, x)
+nameOf (ExpressionLine.NumberLiteral w v) = none
+nameOf (ExpressionLine.BooleanLiteral w b) = none
+nameOf (ExpressionLine.StringLiteral w x m) = none
+nameOf (ExpressionLine.LogicalExpression w o) = none
+nameOf (ExpressionLine.CompareExpression w o) = none
+nameOf (ExpressionLine.BinaryMathExpression w o) = none
+nameOf (ExpressionLine.UnaryMathExpression w o) = none
+nameOf (ExpressionLine.UnaryCryptoExpression w o) = none
+nameOf (ExpressionLine.ByteExpression w) = none
+nameOf (ExpressionLine.CheckSigExpression w) = none
+
 -- the variable that an expression's line names, if its name lies in the listing
-unfoldable pub namedVariable : List ℕ → Parts → Variable
-namedVariable s (Named w x) = whereVariable (isInside s x) (Variable.At w x)
-namedVariable s Nothing = Variable.Missing
-namedVariable s One = Variable.Missing
-namedVariable s Two = Variable.Missing
-namedVariable s Signatures = Variable.Missing
+unfoldable pub namedVariable : List ℕ → Option (Location × Place) → Variable
+namedVariable s none = Variable.Missing
+namedVariable s (some (w, x)) = whereVariable (isInside s x) (Variable.At w x)
 
 unfoldable pub variableOf : List ℕ → Option ExpressionLine → Variable
 variableOf s none = Variable.Missing
-variableOf s (some l) = namedVariable s (partsOf l)
+variableOf s (some l) = namedVariable s (nameOf l)
 
 -- the variable of row i, whose listing line is a number of 32 bits
 unfoldable pub variableIn : List ℕ → List ℕ → ℕ → Variable

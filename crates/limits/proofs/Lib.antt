@@ -1,3 +1,4 @@
 pub mod Digits
+pub mod Letters
 pub mod Parts
 pub mod Walks

@@ -6,7 +6,9 @@ ghost use Rattle.ast.specs.Tree.{Expression, Factor, Factors};
 ghost use Rattle.rows.specs.Rows.{lineIn};
 ghost use Rattle.reader.specs.Spells.{SpellsExpression, SpellsFactor, SpellsFactors};
 ghost use Rattle.rules.specs.Limits.{or21, upTo, wait, security};
-ghost use Rattle.nodes.specs.Stands.{walked, ExpressionAt, FactorAt, FactorsAt};
+ghost use Rattle.listing.specs.declared.Line.{Line};
+ghost use Rattle.listing.specs.declared.ExpressionLine.{ExpressionLine};
+ghost use Rattle.nodes.specs.Stands.{walked, Holds, ExpressionAt, FactorAt, FactorsAt};
 ghost use Rattle.limits.specs.Lines.{operandsOf, overflow, PartWithin};
 ghost use Rattle.limits.specs.Somewhere.{Somewhere};
 use ast::Checked;
@@ -20,6 +22,7 @@ use listing::FactorLine;
 use nodes::Answer;
 use nodes::expression_at;
 use nodes::factor_at;
+use rows::row_in;
 
 pub mod literals; // literals.rt: the length of a literal
 
@@ -57,6 +60,25 @@ pub fn operands_of(e: ExpressionLine) -> Operands
         ExpressionLine::UnaryCryptoExpression(_, _) => Operands::One,
         ExpressionLine::ByteExpression(_) => Operands::One,
         ExpressionLine::CheckSigExpression(_) => Operands::Signatures,
+    }
+}
+
+// What follows the line of the expression at row i.
+fn operands_at(table: &[u32], i: usize) -> Operands
+    requires { ⌜ Holds Line.Expression (now table) i ⌝ }
+    ensures { λ r. ⌜ ((e : ExpressionLine) → lineIn (now (table .entry)) i ≡ Line.Expression e → r ≡ operandsOf e) ⌝ }
+{
+    let r = row_in(table, i);
+    let kind = r.kind;
+    match kind {
+        108 => Operands::Two,
+        99 => Operands::Two,
+        109 => Operands::Two,
+        117 => Operands::One,
+        104 => Operands::One,
+        122 => Operands::One,
+        103 => Operands::Signatures,
+        _ => Operands::Nothing,
     }
 }
 
@@ -130,8 +152,7 @@ pub fn skip_expression(table: &[u32], i: usize) -> usize
     requires { ⌜ Somewhere (λ s. ExpressionAt s (now table) i) ⌝ }
     ensures { λ r. ⌜ ((s : List ℕ) (e : Expression) (j : ℕ) → SpellsExpression (lineIn (now (table .entry))) s i e j → r ≡ j) ⌝ }
 {
-    let line = expression_at(table, i);
-    let operands = operands_of(line);
+    let operands = operands_at(table, i);
     let first = i + 1;
     match operands {
         Operands::Nothing => first,

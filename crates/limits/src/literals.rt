@@ -1,9 +1,11 @@
 // A literal's length, measured over its digits in the listing.
 ghost use mathlib.Core.Path.{_≡_};
-ghost use Prim.Native.Nat.{_+_, _*_, _≤_, _<_};
-ghost use lib.ListN.{length, take, drop};
+ghost use mathlib.Core.Bool.{true, _&&_};
+ghost use mathlib.Core.Logic.{_↔_};
+ghost use Prim.Native.Nat.{ℕ, _+_, _*_, _≤_, _<_};
+ghost use lib.ListN.{length, take, drop, getD};
 ghost use Rattle.rules.specs.Keys.{within, isDigit, allDigits, pushed};
-ghost use Rattle.text.specs.Text.{hexValue, unhex, bytesOf};
+ghost use Rattle.text.specs.Text.{isHexDigit, hexValue, unhex, bytesOf};
 use text::Place;
 
 fn wide(b: u8) -> u32
@@ -61,8 +63,29 @@ pub fn byte_of(a: u8, b: u8) -> u32
     high * 16 + low
 }
 
-// Whether the bytes that `len` digits of the listing spell, from `at` on, are all hex digits. Each digit is read at most once.
-pub fn are_digits(listing: &[u8], at: usize, len: usize) -> bool
+// Whether two lower-case hex digits spell a hex digit of either case, tested without a branch: '0' to '9' are 30 to 39, 'A' to 'F' 41 to 46, 'a' to 'f' 61 to 66.
+fn is_digit_pair(a: u8, b: u8) -> bool
+    ensures { λ r. ⌜ r ≡ (isHexDigit a && isHexDigit b && isDigit (hexValue a * 16 + hexValue b)) ⌝ }
+{
+    ((a == 51) & (48 <= b) & (b <= 57)) | (((a == 52) | (a == 54)) & (49 <= b) & (b <= 54))
+}
+
+// Whether the 32 bytes from `at` on are lower-case hex digits that spell hex digits. Each pair is tested, with no way out before the last, so that they are tested together.
+fn is_digit_run(listing: &[u8], at: usize) -> bool
+    requires { ⌜ at + 32 ≤ length (now listing) ⌝ }
+    ensures { λ r. ⌜ (r ≡ true) ↔ (((j : ℕ) → j < 32 → isHexDigit (getD (now (listing .entry)) (at + j) 0) ≡ true) × (allDigits (unhex (take 32 (drop at (now (listing .entry))))) ≡ true)) ⌝ }
+{
+    let mut ok = true;
+    let mut k: usize = 0;
+    while k < 16 {
+        ok = ok & is_digit_pair(listing[at + 2 * k], listing[at + 2 * k + 1]);
+        k += 1;
+    }
+    ok
+}
+
+// Whether the bytes that `len` digits of the listing spell, from `at` on, are all hex digits, pair by pair. Each digit is read at most once.
+fn digits_rest(listing: &[u8], at: usize, len: usize) -> bool
     requires { ⌜ at + len ≤ length (now listing) ⌝ }
     ensures { λ r. ⌜ r ≡ allDigits (unhex (take len (drop at (now (listing .entry))))) ⌝ }
 {
@@ -77,6 +100,23 @@ pub fn are_digits(listing: &[u8], at: usize, len: usize) -> bool
         left -= 2;
     }
     true
+}
+
+// Whether the bytes that `len` digits of the listing spell, from `at` on, are all hex digits: 16 pairs at a time while all are, the rest pair by pair. Each digit is read at most twice.
+pub fn are_digits(listing: &[u8], at: usize, len: usize) -> bool
+    requires { ⌜ at + len ≤ length (now listing) ⌝ }
+    ensures { λ r. ⌜ r ≡ allDigits (unhex (take len (drop at (now (listing .entry))))) ⌝ }
+{
+    let mut i = at;
+    let mut left = len;
+    while 32 <= left {
+        if !is_digit_run(listing, i) {
+            return digits_rest(listing, i, left);
+        }
+        i += 32;
+        left -= 32;
+    }
+    digits_rest(listing, i, left)
 }
 
 // A literal's length: half its bytes if they are an even count of hex digits, else its bytes.

@@ -43,33 +43,49 @@ same-step : (s : List ℕ) (i j n : ℕ) → i < length s → j < length s → s
 unfolding sameFrom same
 same-step s i j n h k = rw (drop-cons s i 0 h, drop-cons s j 0 k)
 
--- the loop over n bytes from i and from j on, k of which were the same
-module _ (s : List ℕ) (i j n : ℕ) where
-  pub same-start : sameFrom s (i + 0) (j + 0) (n - 0) ≡ sameFrom s i j n
-  same-start =
-      let p : i + 0 ≡ i = omega arith in
-      let q : j + 0 ≡ j = omega arith in
-      let r : n - 0 ≡ n = omega arith in
-      rw (p, q, r)
+and-true : (t : Bool) → (t && true) ≡ t
+and-true true = refl
+and-true false = refl
 
-  module _ (k : ℕ) where
-    pub same-done : n ≤ k → sameFrom s (i + k) (j + k) (n - k) ≡ true
-    unfolding sameFrom same
-    same-done h = let r : n - k ≡ 0 = omega arith in rw r
+and-and : (t u v : Bool) → ((t && u) && v) ≡ (t && (u && v))
+and-and true u v = refl
+and-and false u v = refl
 
-    module _ (inside : i + n ≤ length s) (inside′ : j + n ≤ length s) (h : k < n) where
-      same-at : sameFrom s (i + k) (j + k) (n - k) ≡ (eqb (getD s (i + k) 0) (getD s (j + k) 0) && sameFrom s (i + (k + 1)) (j + (k + 1)) (n - (k + 1)))
-      same-at =
-          let p : i + (k + 1) ≡ suc (i + k) = omega arith in
-          let q : j + (k + 1) ≡ suc (j + k) = omega arith in
-          let r : n - k ≡ suc (n - (k + 1)) = omega arith in
-          rw (p, q, r) (same-step s (i + k) (j + k) (n - (k + 1)) (omega arith) (omega arith))
+-- of k + 1 bytes, the last apart
+same-last : (s : List ℕ) (i j k : ℕ) → i + k < length s → j + k < length s → sameFrom s i j (suc k) ≡ (sameFrom s i j k && eqb (getD s (i + k) 0) (getD s (j + k) 0))
+unfolding sameFrom same
+same-last s i j zero h m =
+    let p : i + 0 ≡ i = omega arith in
+    let q : j + 0 ≡ j = omega arith in
+    same-step s i j 0 (omega arith) (omega arith) ∙ rw (p, q) (and-true (eqb (getD s i 0) (getD s j 0)))
+same-last s i j (suc k) h m =
+    let p : suc i + k ≡ i + suc k = omega arith in
+    let q : suc j + k ≡ j + suc k = omega arith in
+    let first = eqb (getD s i 0) (getD s j 0) in
+    let last = eqb (getD s (i + suc k) 0) (getD s (j + suc k) 0) in
+    let below : sameFrom s (suc i) (suc j) (suc k) ≡ (sameFrom s (suc i) (suc j) k && last) = subst (λ m. sameFrom s (suc i) (suc j) (suc k) ≡ (sameFrom s (suc i) (suc j) k && eqb (getD s m 0) (getD s (j + suc k) 0))) p (subst (λ m. sameFrom s (suc i) (suc j) (suc k) ≡ (sameFrom s (suc i) (suc j) k && eqb (getD s (suc i + k) 0) (getD s m 0))) q (same-last s (suc i) (suc j) k (omega arith) (omega arith))) in
+    same-step s i j (suc k) (omega arith) (omega arith)
+    ∙ ap (λ (b : Bool). first && b) below
+    ∙ sym (and-and first (sameFrom s (suc i) (suc j) k) last)
+    ∙ ap (λ (b : Bool). b && last) (sym (same-step s i j k (omega arith) (omega arith)))
 
-      pub same-more : getD s (i + k) 0 ≡ getD s (j + k) 0 → sameFrom s (i + (k + 1)) (j + (k + 1)) (n - (k + 1)) ≡ sameFrom s (i + k) (j + k) (n - k)
-      same-more e = sym (same-at ∙ rw (eq-eqb (getD s (i + k) 0) (getD s (j + k) 0) e))
+-- the loop over bytes from i and from j on, from the last up: k are left
+module _ (s : List ℕ) (i j : ℕ) where
+  pub same-done : (k : ℕ) → k ≤ 0 → sameFrom s i j k ≡ true
+  unfolding sameFrom same
+  same-done k h = let r : k ≡ 0 = omega arith in rw r
 
-      pub same-less : (getD s (i + k) 0 ≡ getD s (j + k) 0 → ⊥) → sameFrom s (i + k) (j + k) (n - k) ≡ false
-      same-less e = same-at ∙ rw (ne-eqb (getD s (i + k) 0) (getD s (j + k) 0) e)
+  module _ (k : ℕ) (h : 0 < k) (inside : i + k ≤ length s) (inside′ : j + k ≤ length s) where
+    same-at : sameFrom s i j k ≡ (sameFrom s i j (k - 1) && eqb (getD s (i + (k - 1)) 0) (getD s (j + (k - 1)) 0))
+    same-at =
+        let r : k ≡ suc (k - 1) = omega arith in
+        ap (sameFrom s i j) r ∙ same-last s i j (k - 1) (omega arith) (omega arith)
+
+    pub same-more : getD s (i + (k - 1)) 0 ≡ getD s (j + (k - 1)) 0 → sameFrom s i j (k - 1) ≡ sameFrom s i j k
+    same-more e = sym (same-at ∙ rw (eq-eqb (getD s (i + (k - 1)) 0) (getD s (j + (k - 1)) 0) e) (and-true (sameFrom s i j (k - 1))))
+
+    pub same-less : (getD s (i + (k - 1)) 0 ≡ getD s (j + (k - 1)) 0 → ⊥) → sameFrom s i j k ≡ false
+    same-less e = same-at ∙ rw (ne-eqb (getD s (i + (k - 1)) 0) (getD s (j + (k - 1)) 0) e) (and-false (sameFrom s i j (k - 1)))
 
 module _ (s : List ℕ) (a b : Place) where
   part-length : (x : Place) → Inside s x → length (part s x) ≡ x .len

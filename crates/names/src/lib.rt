@@ -1,8 +1,7 @@
 // Names, and the items of a declaration as rows of a table.
 ghost use mathlib.Core.Path.{_≡_};
 ghost use Prim.Native.Nat.{_+_};
-ghost use Rattle.ast.specs.Tree.{StackParam, Declaration, fromTop, same, unplaced};
-ghost use Rattle.ast.specs.declared.Type.the-variants.{Boolean};
+ghost use Rattle.ast.specs.Tree.{StackParam, Declaration, fromTop, same};
 ghost use Rattle.text.specs.Text.{part};
 ghost use Rattle.rows.specs.Rows.{lineIn};
 ghost use Rattle.reader.specs.Reading.{item};
@@ -10,9 +9,10 @@ ghost use Rattle.reader.specs.Spells.{SpellsItems};
 ghost use Rattle.names.specs.Items.{ItemsAt, HoldsItem, Inside, lineOf, foundIn};
 use ast::Location;
 use ast::Type;
-use ast::unplaced;
-use listing::Line;
-use rows::row;
+use ast::numbers::type_from;
+use rows::part_in;
+use rows::place_in;
+use rows::row_in;
 use text::Place;
 
 // An item: where it stands, its type, and where its name stands in the listing.
@@ -28,7 +28,7 @@ pub enum Found {
     Missing,
 }
 
-// Whether two parts of the listing are the same, byte for byte.
+// Whether two parts of the listing are the same, byte for byte. The last byte is looked at first: names of one contract often begin alike.
 pub fn same_name(listing: &[u8], a: Place, b: Place) -> bool
     requires { ⌜ Inside (now listing) a × Inside (now listing) b ⌝ }
     ensures { λ r. ⌜ r ≡ same (part (now (listing .entry)) a) (part (now (listing .entry)) b) ⌝ }
@@ -39,25 +39,14 @@ pub fn same_name(listing: &[u8], a: Place, b: Place) -> bool
     }
     let i = a.at;
     let j = b.at;
-    let mut k: usize = 0;
-    while k < n {
+    let mut k = n;
+    while 0 < k {
+        k -= 1;
         if listing[i + k] != listing[j + k] {
             return false;
         }
-        k += 1;
     }
     true
-}
-
-// An item that no line holds.
-fn no_item() -> Item
-    ensures { λ r. ⌜ r ≡ record { loc = unplaced; ty = Boolean; name = record { at = 0; len = 0 } } ⌝ }
-{
-    Item {
-        loc: unplaced(),
-        ty: Type::Boolean,
-        name: Place { at: 0, len: 0 },
-    }
 }
 
 // The item of an item's line.
@@ -65,15 +54,11 @@ pub fn item_at(table: &[u32], i: usize) -> Item
     requires { ⌜ HoldsItem (now table) i ⌝ }
     ensures { λ r. ⌜ lineIn (now (table .entry)) i ≡ lineOf r ⌝ }
 {
-    let l = row(table, i);
-    match l {
-        Line::StackParam(loc, ty, name) => Item { loc, ty, name },
-        Line::Contract(_, _) => no_item(),
-        Line::Declaration(_) => no_item(),
-        Line::Block(_) => no_item(),
-        Line::Statement(_) => no_item(),
-        Line::Expression(_) => no_item(),
-        Line::Factor(_) => no_item(),
+    let r = row_in(table, i);
+    Item {
+        loc: place_in(r),
+        ty: type_from(r.c),
+        name: part_in(r),
     }
 }
 

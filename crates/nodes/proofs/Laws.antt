@@ -17,7 +17,10 @@ use Rattle.listing.specs.declared.ExpressionLine.{ExpressionLine}
 use Rattle.listing.specs.declared.FactorLine.{FactorLine}
 use Rattle.listing.specs.declared.Line.{Line}
 use Rattle.listing.specs.Kinds.{partOf, statementLine, expressionLine, factorLine}
-use Rattle.rows.specs.Rows.{lineIn}
+use Rattle.rows.specs.Rows.{rowIn, kept, keptAs, lineOf, lineIn}
+use Rattle.rows.specs.declared.Words.{Words}
+use Rattle.rows.proofs.Laws.{kept-in}
+use Rattle.rows.proofs.Forms.{If}
 use Rattle.reader.specs.Spells.{SpellsExpression, SpellsFactor, SpellsFactors, SpellsStatement, SpellsBlock, SpellsStatements}
 use Rattle.reader.proofs.Inversion.{Begun, ExpressionFrom, expression-from, FactorFrom, factor-from, StatementFrom, statement-from}
 use Rattle.reader.proofs.Agree.{expression-on, factor-on, factors-on, statement-on, block-on, statements-on}
@@ -27,6 +30,18 @@ use Rattle.nodes.specs.Stands.{walked, Stands, ExpressionAt, FactorAt, F
 -- a row that holds a line of one kind holds none of another
 pub other-line : {X : Type 0} {make : X → Line} {t : List ℕ} {i : ℕ} {l k : Line} {P : Type 0} → Holds make t i → l ≡ lineIn t i → l ≡ k → ((x : X) → make x ≡ k → ⊥) → P
 other-line h e q apart = absurd (apart (h .held) (sym (h .is) ∙ sym e ∙ q))
+
+-- the line of a row whose letter is known
+pub line-by : (t : List ℕ) (i : ℕ) (k : ℕ) {r : Words} {x : Line} → r ≡ rowIn t i → r .kind ≡ k → x ≡ keptAs kept k r → lineIn t i ≡ x
+unfolding lineIn
+line-by t i k {r} {x} e q h = sym (kept-in k r x q h ∙ ap lineOf e)
+
+-- the line of a row that holds one of a kind, from what is known of all lines of that kind
+pub line-of : {X Y : Type 0} {make : X → Line} (pick : Line → Option Y) (t : List ℕ) (i : ℕ) {r : Words} {x : Line} {y : Y} → r ≡ rowIn t i → (h : Holds make t i) → If (pick (lineOf r)) (λ z. lineOf r ≡ x) → pick (make (h .held)) ≡ some y → lineIn t i ≡ x
+unfolding lineIn
+line-of pick t i {r = r} {x = x} e h all p =
+    let q : pick (lineOf r) ≡ some _ = ap (λ w. pick (lineOf w)) e ∙ ap pick (h .is) ∙ p in
+    sym (ap lineOf e) ∙ subst (λ o. If o (λ z. lineOf r ≡ x)) q all
 
 -- a tree below one that stands
 pub below : {A B : Type 0} {R : ℕ → A → ℕ → Type 0} (Q : ℕ → B → ℕ → Type 0) {s t : List ℕ} {i : ℕ} (st : Stands R s t i) {k m : ℕ} {b : B} → Q k b m → m ≤ st .next → Stands Q s t k

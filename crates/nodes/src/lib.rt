@@ -11,12 +11,16 @@ use ast::CompileError;
 use ast::ErrorKind;
 use ast::Location;
 use ast::Target;
-use ast::unplaced;
+use ast::numbers;
 use listing::ExpressionLine;
 use listing::FactorLine;
 use listing::Line;
 use listing::StatementLine;
+use rows::part_in;
+use rows::place_in;
 use rows::row;
+use rows::row_in;
+use rows::signed_in;
 
 // What a walk over a node answers: the row after it, or the first fault.
 pub enum Answer {
@@ -52,15 +56,21 @@ pub fn expression_at(table: &[u32], i: usize) -> ExpressionLine
     requires { ⌜ Holds Line.Expression (now table) i ⌝ }
     ensures { λ r. ⌜ lineIn (now (table .entry)) i ≡ Line.Expression r ⌝ }
 {
-    let l = row(table, i);
-    match l {
-        Line::Expression(e) => e,
-        Line::Contract(_, _) => ExpressionLine::ByteExpression(unplaced()),
-        Line::Declaration(_) => ExpressionLine::ByteExpression(unplaced()),
-        Line::StackParam(_, _, _) => ExpressionLine::ByteExpression(unplaced()),
-        Line::Block(_) => ExpressionLine::ByteExpression(unplaced()),
-        Line::Statement(_) => ExpressionLine::ByteExpression(unplaced()),
-        Line::Factor(_) => ExpressionLine::ByteExpression(unplaced()),
+    let r = row_in(table, i);
+    let loc = place_in(r);
+    let kind = r.kind;
+    match kind {
+        118 => ExpressionLine::Variable(loc, part_in(r)),
+        110 => ExpressionLine::NumberLiteral(loc, signed_in(r)),
+        98 => ExpressionLine::BooleanLiteral(loc, r.a == 1),
+        115 => ExpressionLine::StringLiteral(loc, part_in(r), r.c == 1),
+        108 => ExpressionLine::LogicalExpression(loc, numbers::logical_from(r.a)),
+        99 => ExpressionLine::CompareExpression(loc, numbers::compare_from(r.a)),
+        109 => ExpressionLine::BinaryMathExpression(loc, numbers::math_from(r.a)),
+        117 => ExpressionLine::UnaryMathExpression(loc, numbers::unary_from(r.a)),
+        104 => ExpressionLine::UnaryCryptoExpression(loc, numbers::crypto_from(r.a)),
+        103 => ExpressionLine::CheckSigExpression(loc),
+        _ => ExpressionLine::ByteExpression(loc),
     }
 }
 
@@ -69,15 +79,12 @@ pub fn factor_at(table: &[u32], i: usize) -> FactorLine
     requires { ⌜ Holds Line.Factor (now table) i ⌝ }
     ensures { λ r. ⌜ lineIn (now (table .entry)) i ≡ Line.Factor r ⌝ }
 {
-    let l = row(table, i);
-    match l {
-        Line::Factor(f) => f,
-        Line::Contract(_, _) => FactorLine::SingleSigFactor(unplaced()),
-        Line::Declaration(_) => FactorLine::SingleSigFactor(unplaced()),
-        Line::StackParam(_, _, _) => FactorLine::SingleSigFactor(unplaced()),
-        Line::Block(_) => FactorLine::SingleSigFactor(unplaced()),
-        Line::Statement(_) => FactorLine::SingleSigFactor(unplaced()),
-        Line::Expression(_) => FactorLine::SingleSigFactor(unplaced()),
+    let r = row_in(table, i);
+    let loc = place_in(r);
+    let kind = r.kind;
+    match kind {
+        77 => FactorLine::MultiSigFactor(loc, r.a, r.b),
+        _ => FactorLine::SingleSigFactor(loc),
     }
 }
 
@@ -86,15 +93,14 @@ pub fn statement_at(table: &[u32], i: usize) -> StatementLine
     requires { ⌜ Holds Line.Statement (now table) i ⌝ }
     ensures { λ r. ⌜ lineIn (now (table .entry)) i ≡ Line.Statement r ⌝ }
 {
-    let l = row(table, i);
-    match l {
-        Line::Statement(s) => s,
-        Line::Contract(_, _) => StatementLine::VerifyStatement(unplaced()),
-        Line::Declaration(_) => StatementLine::VerifyStatement(unplaced()),
-        Line::StackParam(_, _, _) => StatementLine::VerifyStatement(unplaced()),
-        Line::Block(_) => StatementLine::VerifyStatement(unplaced()),
-        Line::Expression(_) => StatementLine::VerifyStatement(unplaced()),
-        Line::Factor(_) => StatementLine::VerifyStatement(unplaced()),
+    let r = row_in(table, i);
+    let loc = place_in(r);
+    let kind = r.kind;
+    match kind {
+        73 => StatementLine::IfStatement(loc, r.a == 1),
+        76 => StatementLine::LocktimeStatement(loc, numbers::locktime_from(r.a), signed_in(r)),
+        86 => StatementLine::VerifyStatement(loc),
+        _ => StatementLine::ExpressionStatement(loc),
     }
 }
 
@@ -103,15 +109,11 @@ pub fn block_at(table: &[u32], i: usize) -> u32
     requires { ⌜ Holds Line.Block (now table) i ⌝ }
     ensures { λ r. ⌜ lineIn (now (table .entry)) i ≡ Line.Block r ⌝ }
 {
-    let l = row(table, i);
-    match l {
-        Line::Block(n) => n,
-        Line::Contract(_, _) => 0,
-        Line::Declaration(_) => 0,
-        Line::StackParam(_, _, _) => 0,
-        Line::Statement(_) => 0,
-        Line::Expression(_) => 0,
-        Line::Factor(_) => 0,
+    let r = row_in(table, i);
+    let kind = r.kind;
+    match kind {
+        66 => r.a,
+        _ => 0,
     }
 }
 

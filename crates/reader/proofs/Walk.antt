@@ -1,11 +1,11 @@
 -- The laws of the walk of a table.
-use Prim.Native.Nat.{ℕ, zero, suc, _+_, _-_, _≤_, _<_}
+use Prim.Native.Nat.{ℕ, zero, suc, max, _+_, _-_, _≤_, _<_}
 use native.Mathlib.Omega.{arith}
 use native.Mathlib.Nat.{sub-zero, sub-eq-zero-of-le}
 use native.Mathlib.Numerals.{add-one}
 use mathlib.Core.Bool.{Bool, true, false, _&&_}
 use mathlib.Core.List.{List}
-use mathlib.Core.Path.{_≡_, refl, sym, ap, subst, _∙_}
+use mathlib.Core.Path.{_≡_, refl, subst}
 use borrow.Author.Tests.{eq-eqb, ne-eqb, ltb-true, eqb-true}
 use lib.Dec.{ltb, eqb}
 use Rattle.reader.specs.declared.Lines.{Lines}
@@ -14,99 +14,94 @@ use Rattle.reader.specs.declared.Asked.the-variants.{Found, Malformed, E
 use Rattle.reader.specs.declared.Step.{Step}
 use Rattle.reader.specs.declared.Step.the-variants.{Next as Onward, Refused}
 use Rattle.reader.specs.declared.tree.Left.{Left}
+use Rattle.reader.specs.declared.tree.Form.{Form}
 use Rattle.reader.specs.declared.tree.Due.{Due}
 use Rattle.reader.specs.Ast.{ExpressionLine, FactorLine, Line, CompileError, UnexpectedLine, CeilingPassed}
 use Rattle.reader.specs.Ceilings.{maxLines, maxDepth, maxBlockDepth, withinCeilings}
 use Rattle.reader.specs.Table.{asked}
-use Rattle.reader.specs.Walk.{expressionKind, factorKind, blockKind, statementKind, itemKind, declarationKind, contractKind, kindOf, countOf, partKind, hasRoom, below, refusal, fitsHere, due, Walk, onward, each, opened, partsOf, node, depthOf, finished}
+use Rattle.reader.specs.Walk.{factorKind, blockKind, contractKind, kindOf, expressionPart, factorPart, formOf, formPart, hasRoom, below, refusal, fitsHere, dueLine, due, Walk, onward, each, opened, partsOf, node, depthOf, finished}
 use Rattle.reader.proofs.Parts.{and₂}
 
 -- a line where one of the kind k is due
-pub due-other : (k : ℕ) (left : Left) (i : ℕ) (l : Line) → (kindOf l ≡ k → ⊥) → Due.Refused (refusal UnexpectedLine i) ≡ due k left i (Found l)
-unfolding due
-due-other k left i l h = rw (ne-eqb (kindOf l) k h, due)
+pub due-other : (k : ℕ) (left : Left) (i : ℕ) (f : Form) → (f .kind ≡ k → ⊥) → Due.Refused (refusal UnexpectedLine i) ≡ dueLine k left i f
+unfolding dueLine
+due-other k left i f h = rw (ne-eqb (f .kind) k h, dueLine)
 
-pub due-stands : (k : ℕ) (left : Left) (i : ℕ) (l : Line) → kindOf l ≡ k → fitsHere k left i l ≡ true → Due.Stands l ≡ due k left i (Found l)
-unfolding due
-due-stands k left i l h f = rw (eq-eqb (kindOf l) k h, f, due)
+pub due-stands : (k : ℕ) (left : Left) (i : ℕ) (f : Form) → f .kind ≡ k → fitsHere k left i f ≡ true → Due.Stands f ≡ dueLine k left i f
+unfolding dueLine
+due-stands k left i f h fits = rw (eq-eqb (f .kind) k h, fits, dueLine)
 
-pub due-past : (k : ℕ) (left : Left) (i : ℕ) (l : Line) → kindOf l ≡ k → fitsHere k left i l ≡ false → Due.Refused (refusal CeilingPassed i) ≡ due k left i (Found l)
-unfolding due
-due-past k left i l h f = rw (eq-eqb (kindOf l) k h, f, due)
-
--- what is known of a line that stands where one of the kind k is due
-pub record Standing (k : ℕ) (left : Left) (i : ℕ) (l : Line) : Type 0 where
-  pub kind : kindOf l ≡ k
-  pub room : hasRoom k left ≡ true
-  pub few : i < maxLines
-
-pub stands : (k : ℕ) (left : Left) (i : ℕ) (a : Asked) {l : Line} → due k left i a ≡ Due.Stands l → Standing k left i l
-unfolding due fitsHere
-stands k left i Malformed h = let z : _≡_ {A = ℕ} 0 1 = cc in absurd (omega arith)
-stands k left i End h = let z : _≡_ {A = ℕ} 0 1 = cc in absurd (omega arith)
-stands k left i (Found m) {l} h = kind (eqb (kindOf m) k) refl
-  where
-    keep : eqb (kindOf m) k ≡ true → m ≡ l → fitsHere k left i m ≡ true → Standing k left i l
-    keep e q f =
-        let g = and₂ (hasRoom k left) (ltb i maxLines && withinCeilings m) f in
-        let w = and₂ (ltb i maxLines) (withinCeilings m) (g .1) in
-        record { kind = ap kindOf (sym q) ∙ eqb-true (kindOf m) k e; room = g .0; few = ltb-true i maxLines (w .0) }
-
-    room : eqb (kindOf m) k ≡ true → (b : Bool) → fitsHere k left i m ≡ b → Standing k left i l
-    room e true f = let q = rw (e, f, due) at h in keep e (cc) f
-    room e false f = let q = rw (e, f, due) at h in let z : _≡_ {A = ℕ} 0 1 = cc in absurd (omega arith)
-
-    kind : (b : Bool) → eqb (kindOf m) k ≡ b → Standing k left i l
-    kind true e = room e (fitsHere k left i m) refl
-    kind false e = let q = rw (e, due) at h in let z : _≡_ {A = ℕ} 0 1 = cc in absurd (omega arith)
+pub due-past : (k : ℕ) (left : Left) (i : ℕ) (f : Form) → f .kind ≡ k → fitsHere k left i f ≡ false → Due.Refused (refusal CeilingPassed i) ≡ dueLine k left i f
+unfolding dueLine
+due-past k left i f h past = rw (eq-eqb (f .kind) k h, past, dueLine)
 
 -- the highest kind of a line's parts
-abbrev pub highest : Line → ℕ
-highest (Line.Contract g n) = declarationKind
-highest (Line.Declaration n) = itemKind
-highest (Line.StackParam w t x) = expressionKind
-highest (Line.Block n) = statementKind
-highest (Line.Statement l) = blockKind
-highest (Line.Expression l) = factorKind
-highest (Line.Factor l) = factorKind
+abbrev pub highest : Form → ℕ
+highest f = max (f .first) (f .rest)
 
-pub part-highest : (l : Line) (m : ℕ) → partKind l m ≤ highest l
-part-highest (Line.Contract g n) m = omega arith
-part-highest (Line.Declaration n) m = omega arith
-part-highest (Line.StackParam w t x) m = omega arith
-part-highest (Line.Block n) m = omega arith
-part-highest (Line.Statement l) zero = omega arith
-part-highest (Line.Statement l) (suc m) = omega arith
-part-highest (Line.Expression (ExpressionLine.Variable w x)) m = omega arith
-part-highest (Line.Expression (ExpressionLine.NumberLiteral w v)) m = omega arith
-part-highest (Line.Expression (ExpressionLine.BooleanLiteral w b)) m = omega arith
-part-highest (Line.Expression (ExpressionLine.StringLiteral w x q)) m = omega arith
-part-highest (Line.Expression (ExpressionLine.LogicalExpression w o)) m = omega arith
-part-highest (Line.Expression (ExpressionLine.CompareExpression w o)) m = omega arith
-part-highest (Line.Expression (ExpressionLine.BinaryMathExpression w o)) m = omega arith
-part-highest (Line.Expression (ExpressionLine.UnaryMathExpression w o)) m = omega arith
-part-highest (Line.Expression (ExpressionLine.UnaryCryptoExpression w o)) m = omega arith
-part-highest (Line.Expression (ExpressionLine.ByteExpression w)) m = omega arith
-part-highest (Line.Expression (ExpressionLine.CheckSigExpression w)) m = omega arith
-part-highest (Line.Factor (FactorLine.SingleSigFactor w)) m = omega arith
-part-highest (Line.Factor (FactorLine.MultiSigFactor w p n)) m = omega arith
+pub part-highest : (f : Form) (m : ℕ) → formPart f m ≤ highest f
+part-highest f zero = omega arith
+part-highest f (suc m) = omega arith
+
+expression-part : (x : ExpressionLine) → expressionPart x ≤ factorKind
+expression-part (ExpressionLine.Variable w x) = omega arith
+expression-part (ExpressionLine.NumberLiteral w v) = omega arith
+expression-part (ExpressionLine.BooleanLiteral w b) = omega arith
+expression-part (ExpressionLine.StringLiteral w x q) = omega arith
+expression-part (ExpressionLine.LogicalExpression w o) = omega arith
+expression-part (ExpressionLine.CompareExpression w o) = omega arith
+expression-part (ExpressionLine.BinaryMathExpression w o) = omega arith
+expression-part (ExpressionLine.UnaryMathExpression w o) = omega arith
+expression-part (ExpressionLine.UnaryCryptoExpression w o) = omega arith
+expression-part (ExpressionLine.ByteExpression w) = omega arith
+expression-part (ExpressionLine.CheckSigExpression w) = omega arith
+
+factor-part : (x : FactorLine) → factorPart x ≤ factorKind
+factor-part (FactorLine.SingleSigFactor w) = omega arith
+factor-part (FactorLine.MultiSigFactor w p n) = omega arith
 
 -- the parts of a line go less deep than the line
-pub parts-fall : (l : Line) (left : Left) → hasRoom (kindOf l) left ≡ true → depthOf (highest l) (below (kindOf l) left) < depthOf (kindOf l) left
+parts-fall : (l : Line) (left : Left) → hasRoom (kindOf l) left ≡ true → depthOf (highest (formOf l)) (below (kindOf l) left) < depthOf (kindOf l) left
 unfolding hasRoom below
 parts-fall (Line.Contract g n) left h = omega arith
 parts-fall (Line.Declaration n) left h = omega arith
 parts-fall (Line.StackParam w t x) left h = omega arith
 parts-fall (Line.Block n) left h = omega (arith, ltb-true)
 parts-fall (Line.Statement l) left h = omega arith
-parts-fall (Line.Expression l) left h = omega (arith, ltb-true)
-parts-fall (Line.Factor l) left h = omega (arith, ltb-true)
+parts-fall (Line.Expression l) left h = omega (arith, ltb-true, expression-part l)
+parts-fall (Line.Factor l) left h = omega (arith, ltb-true, factor-part l)
 
-pub line-falls : {k : ℕ} {left : Left} {i : ℕ} {l : Line} → Standing k left i l → depthOf (highest l) (below k left) < depthOf k left
-line-falls {k} {left} {i} {l} s = subst (λ k. hasRoom k left ≡ true → depthOf (highest l) (below k left) < depthOf k left) (s .kind) (parts-fall l left) (s .room)
+-- what is known of a line that stands where one of the kind k is due
+pub record Standing (k : ℕ) (left : Left) (i : ℕ) (f : Form) : Type 0 where
+  pub room : hasRoom k left ≡ true
+  pub few : i < maxLines
+  pub falls : depthOf (highest f) (below k left) < depthOf k left
 
-pub part-falls : {k : ℕ} {left : Left} {i : ℕ} {l : Line} → Standing k left i l → (m : ℕ) → depthOf (partKind l m) (below k left) < depthOf k left
-part-falls {k} {left} {i} {l} s m = omega (arith, line-falls s, part-highest l m)
+pub stands : (k : ℕ) (left : Left) (i : ℕ) (a : Asked) {f : Form} → due k left i a ≡ Due.Stands f → Standing k left i f
+unfolding due dueLine fitsHere
+stands k left i Malformed h = let z : _≡_ {A = ℕ} 0 1 = cc in absurd (omega arith)
+stands k left i End h = let z : _≡_ {A = ℕ} 0 1 = cc in absurd (omega arith)
+stands k left i (Found l) {f} h = kind (eqb (kindOf l) k) refl
+  where
+    falls : kindOf l ≡ k → hasRoom k left ≡ true → depthOf (highest (formOf l)) (below k left) < depthOf k left
+    falls e = subst (λ k. hasRoom k left ≡ true → depthOf (highest (formOf l)) (below k left) < depthOf k left) e (parts-fall l left)
+
+    keep : eqb (kindOf l) k ≡ true → formOf l ≡ f → fitsHere k left i (formOf l) ≡ true → Standing k left i f
+    keep e q fits =
+        let g = and₂ (hasRoom k left) (ltb i maxLines && withinCeilings l) fits in
+        let w = and₂ (ltb i maxLines) (withinCeilings l) (g .1) in
+        record { room = g .0; few = ltb-true i maxLines (w .0); falls = subst (λ f. depthOf (highest f) (below k left) < depthOf k left) q (falls (eqb-true (kindOf l) k e) (g .0)) }
+
+    room : eqb (kindOf l) k ≡ true → (b : Bool) → fitsHere k left i (formOf l) ≡ b → Standing k left i f
+    room e true fits = let q = rw (e, fits, dueLine) at h in keep e (cc) fits
+    room e false fits = let q = rw (e, fits, dueLine) at h in let z : _≡_ {A = ℕ} 0 1 = cc in absurd (omega arith)
+
+    kind : (b : Bool) → eqb (kindOf l) k ≡ b → Standing k left i f
+    kind true e = room e (fitsHere k left i (formOf l)) refl
+    kind false e = let q = rw (e, dueLine) at h in let z : _≡_ {A = ℕ} 0 1 = cc in absurd (omega arith)
+
+pub part-falls : {k : ℕ} {left : Left} {i : ℕ} {f : Form} → Standing k left i f → (m : ℕ) → depthOf (formPart f m) (below k left) < depthOf k left
+part-falls {k} {left} {i} {f} s m = omega (arith, s .falls, part-highest f m)
 
 -- a node: a refusal, or a line and its parts
 pub node-refused : (f : ℕ) (t : List ℕ) (n : Lines) (left : Left) (k i : ℕ) {x : CompileError} → 0 < f → due k left i (asked t n i) ≡ Due.Refused x → Refused x ≡ node f t n left k i
@@ -114,34 +109,38 @@ unfolding node opened
 node-refused zero t n left k i h e = absurd (omega arith)
 node-refused (suc f) t n left k i h e = rw (e, node, opened)
 
-pub node-stands : (f : ℕ) (t : List ℕ) (n : Lines) (left : Left) (k i : ℕ) (l : Line) (r : Step) → depthOf k left < f → due k left i (asked t n i) ≡ Due.Stands l → ((g : ℕ) → depthOf k left ≤ g → r ≡ partsOf (node g t n (below k left)) l (i + 1)) → r ≡ node f t n left k i
+pub node-stands : (f : ℕ) (t : List ℕ) (n : Lines) (left : Left) (k i : ℕ) (p : Form) (r : Step) → depthOf k left < f → due k left i (asked t n i) ≡ Due.Stands p → ((g : ℕ) → depthOf k left ≤ g → r ≡ partsOf (node g t n (below k left)) p (i + 1)) → r ≡ node f t n left k i
 unfolding node opened
-node-stands zero t n left k i l r h e p = absurd (omega arith)
-node-stands (suc g) t n left k i l r h e p = rw (e, node, opened) (p g (omega arith))
+node-stands zero t n left k i p r h e parts = absurd (omega arith)
+node-stands (suc g) t n left k i p r h e parts = rw (e, node, opened) (parts g (omega arith))
 
--- the parts of a line from the k-th on
-unfoldable pub partsFrom : (ℕ → Walk) → Line → ℕ → Walk
-partsFrom one l k i = each (λ m. one (partKind l m)) (countOf l - k) k i
+-- the parts of a line of the form f, from the k-th on
+unfoldable pub partsFrom : (ℕ → Walk) → Form → ℕ → Walk
+partsFrom one f k i = each (λ m. one (formPart f m)) (f .count - k) k i
 
 less : (count k : ℕ) → k < count → count - k ≡ suc (count - (k + 1))
 less count k h = omega arith
 
-pub parts-all : (one : ℕ → Walk) (l : Line) (i : ℕ) → partsFrom one l 0 i ≡ partsOf one l i
+pub parts-all : (one : ℕ → Walk) (f : Form) (i : ℕ) → partsFrom one f 0 i ≡ partsOf one f i
 unfolding partsFrom partsOf
-parts-all one l i = rw sub-zero
+parts-all one f i = rw sub-zero
 
-pub parts-end : (one : ℕ → Walk) (l : Line) (k i : ℕ) → countOf l ≤ k → Onward i ≡ partsFrom one l k i
+pub parts-none : (one : ℕ → Walk) (f : Form) (i : ℕ) → f .count ≡ 0 → Onward i ≡ partsOf one f i
+unfolding partsOf each
+parts-none one f i h = rw h
+
+pub parts-end : (one : ℕ → Walk) (f : Form) (k i : ℕ) → f .count ≤ k → Onward i ≡ partsFrom one f k i
 unfolding partsFrom each
-parts-end one l k i h = rw (sub-eq-zero-of-le h)
+parts-end one f k i h = rw (sub-eq-zero-of-le h)
 
 -- with q for the kind of the k-th part, and r for what its node gives
-pub parts-refused : (one : ℕ → Walk) (l : Line) (k i : ℕ) {q : ℕ} {r : Step} {x : CompileError} → k < countOf l → q ≡ partKind l k → r ≡ one q i → r ≡ Refused x → Refused x ≡ partsFrom one l k i
+pub parts-refused : (one : ℕ → Walk) (f : Form) (k i : ℕ) {q : ℕ} {r : Step} {x : CompileError} → k < f .count → q ≡ formPart f k → r ≡ one q i → r ≡ Refused x → Refused x ≡ partsFrom one f k i
 unfolding partsFrom each onward
-parts-refused one l k i h e g s = rw (less (countOf l) k h, ← e, ← g, s, each, onward)
+parts-refused one f k i h e g s = rw (less (f .count) k h, ← e, ← g, s, each, onward)
 
-pub parts-next : (one : ℕ → Walk) (l : Line) (k i : ℕ) {q j : ℕ} {r : Step} → k < countOf l → q ≡ partKind l k → r ≡ one q i → r ≡ Onward j → partsFrom one l (k + 1) j ≡ partsFrom one l k i
+pub parts-next : (one : ℕ → Walk) (f : Form) (k i : ℕ) {q j : ℕ} {r : Step} → k < f .count → q ≡ formPart f k → r ≡ one q i → r ≡ Onward j → partsFrom one f (k + 1) j ≡ partsFrom one f k i
 unfolding partsFrom each onward
-parts-next one l k i h e g s = rw (less (countOf l) k h, ← e, ← g, s, each, onward, add-one k)
+parts-next one f k i h e g s = rw (less (f .count) k h, ← e, ← g, s, each, onward, add-one k)
 
 -- every level is left
 abbrev pub allLevels : Left

@@ -1,5 +1,5 @@
 -- The reading by line numbers, over a table of rows: the lines of the tree, without the tree.
--- A node is a line and its parts, the nodes that follow it. How many and of which kinds is said in `countOf` and `partKind`.
+-- A node is a line and its parts, the nodes that follow it. How many and of which kinds is said in `countOf` and `partKind`; the walk sees a line by its form.
 use Prim.Native.Nat.{ℕ, zero, suc, _+_, _*_, _-_}
 use mathlib.Core.Bool.{Bool, true, false, _&&_}
 use mathlib.Core.List.{List}
@@ -10,6 +10,7 @@ use Rattle.reader.specs.declared.Asked.the-variants.{Found, Malformed, E
 use Rattle.reader.specs.declared.Step.{Step}
 use Rattle.reader.specs.declared.Step.the-variants.{Next as Onward, Refused}
 use Rattle.reader.specs.declared.tree.Left.{Left}
+use Rattle.reader.specs.declared.tree.Form.{Form}
 use Rattle.reader.specs.declared.tree.Due.{Due}
 use Rattle.reader.specs.Ast.{StatementLine, ExpressionLine, FactorLine, Line, ErrorKind, CompileError, MalformedLine, UnexpectedLine, CeilingPassed, fault}
 use Rattle.reader.specs.Source.{atLine}
@@ -104,6 +105,15 @@ partKind (Line.Statement l) k = statementPart k
 partKind (Line.Expression l) k = expressionPart l
 partKind (Line.Factor l) k = factorPart l
 
+-- what the walk asks of a line: its kind, how many parts it has, the kinds of the first and of the others, and whether it passes no ceiling of its own
+abbrev pub formOf : Line → Form
+formOf l = record { kind = kindOf l; count = countOf l; first = partKind l 0; rest = partKind l 1; within = withinCeilings l }
+
+-- the kind of the part numbered k, from 0, by the form
+abbrev pub formPart : Form → ℕ → ℕ
+formPart f zero = f .first
+formPart f (suc k) = f .rest
+
 -- whether a level is left for a node of this kind
 unfoldable pub hasRoom : ℕ → Left → Bool
 hasRoom k left = elim (ltb k blockKind) [
@@ -127,15 +137,19 @@ abbrev pub refusal : ErrorKind → ℕ → CompileError
 refusal e i = fault e (atLine (lineNumber i))
 
 -- whether a line of the kind that is due passes no ceiling
-unfoldable pub fitsHere : ℕ → Left → ℕ → Line → Bool
-fitsHere k left i l = hasRoom k left && (ltb i maxLines && withinCeilings l)
+unfoldable pub fitsHere : ℕ → Left → ℕ → Form → Bool
+fitsHere k left i f = hasRoom k left && (ltb i maxLines && f .within)
 
--- where a line of the kind k is due: 2, 3, 4, else the line
-unfoldable pub due : ℕ → Left → ℕ → Asked → Due
-due k left i (Found l) = elim (eqb (kindOf l) k) [
-  | true ↦ elim (fitsHere k left i l) [ true ↦ Due.Stands l | false ↦ Due.Refused (refusal CeilingPassed i) ]
+-- a line where one of the kind k is due: 3, 4, else its form
+unfoldable pub dueLine : ℕ → Left → ℕ → Form → Due
+dueLine k left i f = elim (eqb (f .kind) k) [
+  | true ↦ elim (fitsHere k left i f) [ true ↦ Due.Stands f | false ↦ Due.Refused (refusal CeilingPassed i) ]
   | false ↦ Due.Refused (refusal UnexpectedLine i)
 ]
+
+-- where a line of the kind k is due: 2, 3, 4, else the line's form
+unfoldable pub due : ℕ → Left → ℕ → Asked → Due
+due k left i (Found l) = dueLine k left i (formOf l)
 due k left i Malformed = Due.Refused (refusal MalformedLine i)
 due k left i End = Due.Refused (refusal UnexpectedLine i)
 
@@ -154,18 +168,18 @@ each part zero k i = Onward i
 each part (suc m) k i = onward (part k i) (λ j. each part m (suc k) j)
 
 -- the line that stands, and what it opens
-unfoldable pub opened : Due → (Line → Step) → Step
-opened (Due.Stands l) w = w l
+unfoldable pub opened : Due → (Form → Step) → Step
+opened (Due.Stands f) w = w f
 opened (Due.Refused x) w = Refused x
 
--- the parts of the line l, `one` being a node of a kind
-unfoldable pub partsOf : (ℕ → Walk) → Line → Walk
-partsOf one l i = each (λ m. one (partKind l m)) (countOf l) 0 i
+-- the parts of a line of the form f, `one` being a node of a kind
+unfoldable pub partsOf : (ℕ → Walk) → Form → Walk
+partsOf one f i = each (λ m. one (formPart f m)) (f .count) 0 i
 
 -- a node of the kind k, at most f lines deep
 unfoldable pub node : ℕ → List ℕ → Lines → Left → ℕ → Walk
 node zero t n left k i = Refused (refusal CeilingPassed i)
-node (suc f) t n left k i = opened (due k left i (asked t n i)) (λ l. partsOf (λ q j. node f t n (below k left) q j) l (i + 1))
+node (suc f) t n left k i = opened (due k left i (asked t n i)) (λ p. partsOf (λ q j. node f t n (below k left) q j) p (i + 1))
 
 -- a bound on how deep a node goes
 abbrev pub depthOf : ℕ → Left → ℕ

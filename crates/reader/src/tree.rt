@@ -1,25 +1,23 @@
 // Which line may follow, and the ceilings: the reading of the tree over a table of rows, of which nothing is written.
 ghost use mathlib.Core.Path.{_≡_};
-ghost use mathlib.Core.Bool.{true};
+ghost use mathlib.Core.Bool.{true, false};
 ghost use mathlib.Core.List.{List};
 ghost use Prim.Native.Nat.{ℕ, _+_, _*_, _≤_, _<_};
+ghost use lib.Dec.{leb, eqb};
 ghost use lib.ListN.{length};
+ghost use Rattle.rows.specs.Rows.{lineIn};
 ghost use Rattle.reader.specs.Source.{source};
 ghost use Rattle.reader.specs.Reading.{contract};
-ghost use Rattle.reader.specs.Ceilings.{withinCeilings};
 ghost use Rattle.reader.specs.Table.{asked, Holds, stepped};
-ghost use Rattle.reader.specs.Walk.{kindOf, countOf, statementPart, expressionPart, factorPart, partKind, partsOf, hasRoom, below, fitsHere, lineNumber, refusal, due, node, depthOf, finished};
+ghost use Rattle.reader.specs.Walk.{expressionKind, blockKind, statementKind, formOf, formPart, partsOf, hasRoom, below, fitsHere, lineNumber, refusal, dueLine, due, node, depthOf, finished};
 use crate::Asked;
 use crate::Lines;
 use crate::Step;
 use ast::CompileError;
 use ast::ErrorKind;
 use ast::Location;
-use listing::ExpressionLine;
-use listing::FactorLine;
-use listing::Line;
-use listing::StatementLine;
 use rows::row;
+use rows::row_in;
 
 // The kinds of line, by where they may stand.
 const EXPRESSION: u32 = 0;
@@ -43,10 +41,10 @@ const MAX_DECLARATIONS: u32 = 32;
 
 const MAX_ITEMS: u32 = 32;
 
-const MAX_NAME: usize = 32;
+const MAX_NAME: u32 = 32;
 
 // Two digits for each of 1200 bytes.
-const MAX_DIGITS: usize = 2400;
+const MAX_DIGITS: u32 = 2400;
 
 const MAX_FACTORS: u32 = 64;
 
@@ -60,9 +58,18 @@ struct Left {
     expressions: u32,
 }
 
-// Where a line of a kind is due: the line, or the refusal.
+// What is asked of a line: its kind, how many parts it has, the kinds of the first and of the others, and whether it is within its own ceiling.
+struct Form {
+    kind: u32,
+    count: u32,
+    first: u32,
+    rest: u32,
+    within: bool,
+}
+
+// Where a line of a kind is due: its form, or the refusal.
 enum Due {
-    Stands(Line),
+    Stands(Form),
     Refused(CompileError),
 }
 
@@ -81,163 +88,103 @@ fn line_at(table: &[u32], lines: Lines, k: usize) -> Asked
     }
 }
 
-// Whether a line's own count, name or literal is within its ceiling.
-fn within_ceilings(l: Line) -> bool
-    ensures { λ r. ⌜ r ≡ withinCeilings l ⌝ }
+// The form of a line with parts of one kind, and no ceiling of its own.
+fn plain_form(kind: u32, count: u32, part: u32) -> Form
+    ensures { λ r. ⌜ r ≡ record { kind = kind; count = count; first = part; rest = part; within = true } ⌝ }
 {
-    match l {
-        Line::Contract(_, n) => n <= MAX_DECLARATIONS,
-        Line::Declaration(n) => n <= MAX_ITEMS,
-        Line::StackParam(_, _, x) => x.len <= MAX_NAME,
-        Line::Block(_) => true,
-        Line::Statement(_) => true,
-        Line::Expression(e) => expression_within(e),
-        Line::Factor(f) => factor_within(f),
+    Form {
+        kind,
+        count,
+        first: part,
+        rest: part,
+        within: true,
     }
 }
 
-fn expression_within(e: ExpressionLine) -> bool
-    ensures { λ r. ⌜ r ≡ withinCeilings (Line.Expression e) ⌝ }
+// The same with a ceiling on their count.
+fn counted_form(kind: u32, count: u32, part: u32, most: u32) -> Form
+    ensures { λ r. ⌜ r ≡ record { kind = kind; count = count; first = part; rest = part; within = leb count most } ⌝ }
 {
-    match e {
-        ExpressionLine::Variable(_, x) => x.len <= MAX_NAME,
-        ExpressionLine::StringLiteral(_, x, _) => x.len <= MAX_DIGITS,
-        ExpressionLine::NumberLiteral(_, _) => true,
-        ExpressionLine::BooleanLiteral(_, _) => true,
-        ExpressionLine::LogicalExpression(_, _) => true,
-        ExpressionLine::CompareExpression(_, _) => true,
-        ExpressionLine::BinaryMathExpression(_, _) => true,
-        ExpressionLine::UnaryMathExpression(_, _) => true,
-        ExpressionLine::UnaryCryptoExpression(_, _) => true,
-        ExpressionLine::ByteExpression(_) => true,
-        ExpressionLine::CheckSigExpression(_) => true,
+    Form {
+        kind,
+        count,
+        first: part,
+        rest: part,
+        within: count <= most,
     }
 }
 
-fn factor_within(f: FactorLine) -> bool
-    ensures { λ r. ⌜ r ≡ withinCeilings (Line.Factor f) ⌝ }
+// The form of a line with no parts, and a ceiling on the length of its name or literal.
+fn named_form(kind: u32, len: u32, most: u32) -> Form
+    ensures { λ r. ⌜ r ≡ record { kind = kind; count = 0; first = expressionKind; rest = expressionKind; within = leb len most } ⌝ }
 {
-    match f {
-        FactorLine::SingleSigFactor(_) => true,
-        FactorLine::MultiSigFactor(_, _, n) => n <= MAX_FACTORS,
+    Form {
+        kind,
+        count: 0,
+        first: EXPRESSION,
+        rest: EXPRESSION,
+        within: len <= most,
     }
 }
 
-// The kind of a line.
-fn kind_of(l: Line) -> u32
-    ensures { λ r. ⌜ r ≡ kindOf l ⌝ }
+// The form of a statement: its condition first, then blocks.
+fn statement_form(count: u32) -> Form
+    ensures { λ r. ⌜ r ≡ record { kind = statementKind; count = count; first = expressionKind; rest = blockKind; within = true } ⌝ }
 {
-    match l {
-        Line::Contract(_, _) => CONTRACT,
-        Line::Declaration(_) => DECLARATION,
-        Line::StackParam(_, _, _) => ITEM,
-        Line::Block(_) => BLOCK,
-        Line::Statement(_) => STATEMENT,
-        Line::Expression(_) => EXPRESSION,
-        Line::Factor(_) => FACTOR,
+    Form {
+        kind: STATEMENT,
+        count,
+        first: EXPRESSION,
+        rest: BLOCK,
+        within: true,
     }
 }
 
-// How many nodes follow a line as its parts; a T line, as its declarations.
-fn count_of(l: Line) -> u32
-    ensures { λ r. ⌜ r ≡ countOf l ⌝ }
+// How many parts an if has, by the word that says whether it has an else.
+fn if_parts(e: u32) -> u32
+    ensures { λ r. ⌜ r ≡ elim (eqb e 1) [ true ↦ 3 | false ↦ 2 ] ⌝ }
 {
-    match l {
-        Line::Contract(_, n) => n,
-        Line::Declaration(n) => n,
-        Line::StackParam(_, _, _) => 0,
-        Line::Block(n) => n,
-        Line::Statement(s) => statement_count(s),
-        Line::Expression(e) => expression_count(e),
-        Line::Factor(f) => factor_count(f),
+    if e == 1 { 3 } else { 2 }
+}
+
+// The form of the line that row i keeps, by its letter.
+fn form_at(table: &[u32], i: usize) -> Form
+    requires { ⌜ i * 9 + 9 ≤ length (now table) ⌝ }
+    ensures { λ r. ⌜ r ≡ formOf (lineIn (now (table .entry)) i) ⌝ }
+{
+    let r = row_in(table, i);
+    let letter = r.kind;
+    match letter {
+        84 => counted_form(CONTRACT, r.b, DECLARATION, MAX_DECLARATIONS),
+        68 => counted_form(DECLARATION, r.a, ITEM, MAX_ITEMS),
+        80 => named_form(ITEM, r.b, MAX_NAME),
+        66 => plain_form(BLOCK, r.a, STATEMENT),
+        73 => statement_form(if_parts(r.a)),
+        76 => statement_form(0),
+        86 => statement_form(1),
+        69 => statement_form(1),
+        118 => named_form(EXPRESSION, r.b, MAX_NAME),
+        110 => plain_form(EXPRESSION, 0, EXPRESSION),
+        98 => plain_form(EXPRESSION, 0, EXPRESSION),
+        115 => named_form(EXPRESSION, r.b, MAX_DIGITS),
+        108 => plain_form(EXPRESSION, 2, EXPRESSION),
+        99 => plain_form(EXPRESSION, 2, EXPRESSION),
+        109 => plain_form(EXPRESSION, 2, EXPRESSION),
+        117 => plain_form(EXPRESSION, 1, EXPRESSION),
+        104 => plain_form(EXPRESSION, 1, EXPRESSION),
+        122 => plain_form(EXPRESSION, 1, EXPRESSION),
+        103 => plain_form(EXPRESSION, 1, FACTOR),
+        83 => plain_form(FACTOR, 2, EXPRESSION),
+        77 => counted_form(FACTOR, r.b, FACTOR, MAX_FACTORS),
+        _ => plain_form(BLOCK, 0, STATEMENT),
     }
 }
 
-fn statement_count(s: StatementLine) -> u32
-    ensures { λ r. ⌜ r ≡ countOf (Line.Statement s) ⌝ }
+// The kind of the part numbered k, from 0.
+fn part_kind(form: Form, k: u32) -> u32
+    ensures { λ r. ⌜ r ≡ formPart form k ⌝ }
 {
-    match s {
-        StatementLine::IfStatement(_, e) => if e { 3 } else { 2 },
-        StatementLine::LocktimeStatement(_, _, _) => 0,
-        StatementLine::VerifyStatement(_) => 1,
-        StatementLine::ExpressionStatement(_) => 1,
-    }
-}
-
-fn expression_count(e: ExpressionLine) -> u32
-    ensures { λ r. ⌜ r ≡ countOf (Line.Expression e) ⌝ }
-{
-    match e {
-        ExpressionLine::Variable(_, _) => 0,
-        ExpressionLine::NumberLiteral(_, _) => 0,
-        ExpressionLine::BooleanLiteral(_, _) => 0,
-        ExpressionLine::StringLiteral(_, _, _) => 0,
-        ExpressionLine::LogicalExpression(_, _) => 2,
-        ExpressionLine::CompareExpression(_, _) => 2,
-        ExpressionLine::BinaryMathExpression(_, _) => 2,
-        ExpressionLine::UnaryMathExpression(_, _) => 1,
-        ExpressionLine::UnaryCryptoExpression(_, _) => 1,
-        ExpressionLine::ByteExpression(_) => 1,
-        ExpressionLine::CheckSigExpression(_) => 1,
-    }
-}
-
-fn factor_count(f: FactorLine) -> u32
-    ensures { λ r. ⌜ r ≡ countOf (Line.Factor f) ⌝ }
-{
-    match f {
-        FactorLine::SingleSigFactor(_) => 2,
-        FactorLine::MultiSigFactor(_, _, n) => n,
-    }
-}
-
-// The kind of the line's part numbered k, from 0.
-fn part_kind(l: Line, k: u32) -> u32
-    ensures { λ r. ⌜ r ≡ partKind l k ⌝ }
-{
-    match l {
-        Line::Contract(_, _) => DECLARATION,
-        Line::Declaration(_) => ITEM,
-        Line::StackParam(_, _, _) => EXPRESSION,
-        Line::Block(_) => STATEMENT,
-        Line::Statement(_) => statement_part(k),
-        Line::Expression(e) => expression_part(e),
-        Line::Factor(f) => factor_part(f),
-    }
-}
-
-// A statement has its condition first, then blocks.
-fn statement_part(k: u32) -> u32
-    ensures { λ r. ⌜ r ≡ statementPart k ⌝ }
-{
-    if k == 0 { EXPRESSION } else { BLOCK }
-}
-
-fn expression_part(e: ExpressionLine) -> u32
-    ensures { λ r. ⌜ r ≡ expressionPart e ⌝ }
-{
-    match e {
-        ExpressionLine::Variable(_, _) => EXPRESSION,
-        ExpressionLine::NumberLiteral(_, _) => EXPRESSION,
-        ExpressionLine::BooleanLiteral(_, _) => EXPRESSION,
-        ExpressionLine::StringLiteral(_, _, _) => EXPRESSION,
-        ExpressionLine::LogicalExpression(_, _) => EXPRESSION,
-        ExpressionLine::CompareExpression(_, _) => EXPRESSION,
-        ExpressionLine::BinaryMathExpression(_, _) => EXPRESSION,
-        ExpressionLine::UnaryMathExpression(_, _) => EXPRESSION,
-        ExpressionLine::UnaryCryptoExpression(_, _) => EXPRESSION,
-        ExpressionLine::ByteExpression(_) => EXPRESSION,
-        ExpressionLine::CheckSigExpression(_) => FACTOR,
-    }
-}
-
-fn factor_part(f: FactorLine) -> u32
-    ensures { λ r. ⌜ r ≡ factorPart f ⌝ }
-{
-    match f {
-        FactorLine::SingleSigFactor(_) => EXPRESSION,
-        FactorLine::MultiSigFactor(_, _, _) => FACTOR,
-    }
+    if k == 0 { form.first } else { form.rest }
 }
 
 // Whether a level is left for a node of this kind.
@@ -297,8 +244,8 @@ fn refuse(kind: ErrorKind, i: usize) -> CompileError
 }
 
 // Whether a line of the kind that is due passes no ceiling.
-fn fits_here(l: Line, i: usize, kind: u32, left: Left) -> bool
-    ensures { λ r. ⌜ r ≡ fitsHere kind left i l ⌝ }
+fn fits_here(form: Form, i: usize, kind: u32, left: Left) -> bool
+    ensures { λ r. ⌜ r ≡ fitsHere kind left i form ⌝ }
 {
     if !has_room(kind, left) {
         return false;
@@ -306,18 +253,18 @@ fn fits_here(l: Line, i: usize, kind: u32, left: Left) -> bool
     if MAX_LINES <= i {
         return false;
     }
-    within_ceilings(l)
+    form.within
 }
 
 // A line where one of this kind is due: 3, then 4.
-fn due_line(l: Line, i: usize, kind: u32, left: Left) -> Due
-    ensures { λ r. ⌜ r ≡ due kind left i (Asked.Found l) ⌝ }
+fn due_line(form: Form, i: usize, kind: u32, left: Left) -> Due
+    ensures { λ r. ⌜ r ≡ dueLine kind left i form ⌝ }
 {
-    if kind_of(l) != kind {
+    if form.kind != kind {
         return Due::Refused(refuse(ErrorKind::UnexpectedLine, i));
     }
-    if fits_here(l, i, kind, left) {
-        return Due::Stands(l);
+    if fits_here(form, i, kind, left) {
+        return Due::Stands(form);
     }
     Due::Refused(refuse(ErrorKind::CeilingPassed, i))
 }
@@ -327,11 +274,13 @@ fn line_due(table: &[u32], lines: Lines, i: usize, kind: u32, left: Left) -> Due
     requires { ⌜ lines .count * 9 ≤ length (now table) ⌝ }
     ensures { λ r. ⌜ r ≡ due kind left i (asked (now (table .entry)) lines i) ⌝ }
 {
-    let next = line_at(table, lines, i);
-    match next {
-        Asked::Found(l) => due_line(l, i, kind, left),
-        Asked::Malformed => Due::Refused(refuse(ErrorKind::MalformedLine, i)),
-        Asked::End => Due::Refused(refuse(ErrorKind::UnexpectedLine, i)),
+    if i < lines.count {
+        return due_line(form_at(table, i), i, kind, left);
+    }
+    if lines.ended {
+        Due::Refused(refuse(ErrorKind::UnexpectedLine, i))
+    } else {
+        Due::Refused(refuse(ErrorKind::MalformedLine, i))
     }
 }
 
@@ -355,21 +304,27 @@ fn read_node(table: &[u32], lines: Lines, i: usize, kind: u32, left: Left) -> St
 {
     let next = line_due(table, lines, i, kind, left);
     match next {
-        Due::Stands(l) => read_parts(table, lines, i + 1, l, levels_below(kind, left)),
+        Due::Stands(form) => {
+            let after = i + 1;
+            if form.count == 0 {
+                return Step::Next(after);
+            }
+            read_parts(table, lines, after, form, levels_below(kind, left))
+        }
         Due::Refused(x) => Step::Refused(x),
     }
 }
 
-// The parts of the line l, from the line numbered i on.
-fn read_parts(table: &[u32], lines: Lines, i: usize, l: Line, left: Left) -> Step
+// The parts of a line of this form, from the line numbered i on.
+fn read_parts(table: &[u32], lines: Lines, i: usize, form: Form, left: Left) -> Step
     requires { ⌜ lines .count * 9 ≤ length (now table) ⌝ }
-    ensures { λ r. ⌜ ((f : ℕ) → ((m : ℕ) → depthOf (partKind l m) left < f) → r ≡ partsOf (node f (now (table .entry)) lines left) l i) ⌝ }
+    ensures { λ r. ⌜ ((f : ℕ) → ((m : ℕ) → depthOf (formPart form m) left < f) → r ≡ partsOf (node f (now (table .entry)) lines left) form i) ⌝ }
 {
-    let count = count_of(l);
+    let count = form.count;
     let mut next = i;
     let mut k: u32 = 0;
     while k < count {
-        let part = read_node(table, lines, next, part_kind(l, k), left);
+        let part = read_node(table, lines, next, part_kind(form, k), left);
         match part {
             Step::Next(j) => {
                 next = j;

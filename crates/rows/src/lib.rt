@@ -99,7 +99,7 @@ fn signed_row(k: u32, w: Location, a: u32, v: Signed) -> Words
     )
 }
 
-fn place_in(r: Words) -> Location
+pub fn place_in(r: Words) -> Location
     ensures { λ x. ⌜ x ≡ placeIn r ⌝ }
 {
     Location {
@@ -110,7 +110,7 @@ fn place_in(r: Words) -> Location
     }
 }
 
-fn signed_in(r: Words) -> Signed
+pub fn signed_in(r: Words) -> Signed
     ensures { λ x. ⌜ x ≡ signedIn r ⌝ }
 {
     Signed {
@@ -119,7 +119,7 @@ fn signed_in(r: Words) -> Signed
     }
 }
 
-fn part_in(r: Words) -> Place
+pub fn part_in(r: Words) -> Place
     ensures { λ x. ⌜ x ≡ partIn r ⌝ }
 {
     Place {

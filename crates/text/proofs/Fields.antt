@@ -10,9 +10,9 @@ use borrow.Author.Tests.{ltb-true, ltb-false, leb-true, leb-false, lt-ltb, le-lt
 use lib.Dec.{leb, ltb, eqb}
 use lib.ListN.{length, drop, getD, getElem?, drop-of-length-le}
 use lib.Seq.{drop-cons}
-use Rattle.text.specs.declared.DecimalRead.{DecimalRead}
 use Rattle.text.specs.declared.Pushed.{Pushed}
 use Rattle.text.specs.Text.{Got, got, failed, Reader, given, readAt, _>>=_, yield, fail, guard, minus, byte, within, isDigit, digits, decimal, capped, upTo, word, index, choice, bit, afterMinus, unsigned, sign, run}
+use Rattle.text.proofs.Every.{Every}
 use Rattle.text.proofs.Places.{digits-grow, run-from, run-length, run-total, got-place}
 
 -- the byte that had to stand there, another, none
@@ -28,14 +28,15 @@ pub byte-past : (b : ℕ) (s : List ℕ) (i : ℕ) → length s ≤ i → byte b
 unfolding byte
 byte-past b s i h = rw (drop-of-length-le s h)
 
--- a digit is at least `0`
-pub digit-low : (b : ℕ) → isDigit b ≡ true → 48 ≤ b
+-- a digit is from `0` to `9`
+pub digit-range : (b : ℕ) → isDigit b ≡ true → (48 ≤ b) × (b ≤ 57)
 unfolding isDigit within
-digit-low b h = go (leb 48 b) refl
+digit-range b h = go (leb 48 b) refl (leb b 57) refl
   where
-    go : (x : Bool) → leb 48 b ≡ x → 48 ≤ b
-    go true e = leb-true 48 b e
-    go false e = let z : _≡_ {A = Bool} false true = rw (e, isDigit, within) at h in let o : _≡_ {A = ℕ} 0 1 = cc in absurd (omega arith)
+    go : (x : Bool) → leb 48 b ≡ x → (y : Bool) → leb b 57 ≡ y → (48 ≤ b) × (b ≤ 57)
+    go true e true f = (leb-true 48 b e, leb-true b 57 f)
+    go true e false f = let z : _≡_ {A = Bool} false true = rw (e, f, isDigit, within) at h in let o : _≡_ {A = ℕ} 0 1 = cc in absurd (omega arith)
+    go false e y f = let z : _≡_ {A = Bool} false true = rw (e, isDigit, within) at h in let o : _≡_ {A = ℕ} 0 1 = cc in absurd (omega arith)
 
 -- one digit more, none more, no byte more
 pub digits-step : (v : ℕ) (s : List ℕ) (i : ℕ) → i < length s → isDigit (getD s i 0) ≡ true → digits v i (drop i s) ≡ digits (v * 10 + (getD s i 0 - 48)) (i + 1) (drop (i + 1) s)
@@ -51,24 +52,25 @@ unfolding digits
 digits-past v s i h = rw (drop-of-length-le s h)
 
 -- the same under a limit, as the code answers it
-abbrev pub Digits : List ℕ → ℕ → ℕ → ℕ → DecimalRead
-Digits s limit v i = readAt DecimalRead.Got DecimalRead.Failed (capped limit (digits v)) s i
+module _ {R : Type 0} (good : ℕ → ℕ → R) (bad : R) (s : List ℕ) (limit : ℕ) where
+  abbrev pub Digits : ℕ → ℕ → R
+  Digits v i = readAt good bad (capped limit (digits v)) s i
 
-pub capped-step : (s : List ℕ) (limit v i : ℕ) → i < length s → isDigit (getD s i 0) ≡ true → Digits s limit (v * 10 + (getD s i 0 - 48)) (i + 1) ≡ Digits s limit v i
-unfolding readAt given capped _>>=_
-capped-step s limit v i h d = rw (digits-step v s i h d, _>>=_)
+  pub capped-step : (v i : ℕ) → i < length s → isDigit (getD s i 0) ≡ true → Digits (v * 10 + (getD s i 0 - 48)) (i + 1) ≡ Digits v i
+  unfolding readAt given capped _>>=_
+  capped-step v i h d = rw (digits-step v s i h d, _>>=_)
 
-pub capped-got : (s : List ℕ) (limit v i : ℕ) → v ≤ limit → digits v i (drop i s) ≡ got v i (drop i s) → DecimalRead.Got v i ≡ Digits s limit v i
-unfolding readAt given capped _>>=_ guard
-capped-got s limit v i h e = rw (e, _>>=_, le-leb v limit h, guard)
+  pub capped-got : (v i : ℕ) → v ≤ limit → digits v i (drop i s) ≡ got v i (drop i s) → good v i ≡ Digits v i
+  unfolding readAt given capped _>>=_ guard
+  capped-got v i h e = rw (e, _>>=_, le-leb v limit h, guard)
 
-pub capped-over : (s : List ℕ) (limit v i : ℕ) → limit < v → DecimalRead.Failed ≡ Digits s limit v i
-unfolding readAt given capped _>>=_ guard
-capped-over s limit v i h = go (digits v i (drop i s)) refl
-  where
-    go : (x : Got ℕ) → digits v i (drop i s) ≡ x → DecimalRead.Failed ≡ Digits s limit v i
-    go (got a m t) e = let g = digits-grow (drop i s) v i a m t e in let w : limit < a = omega arith in rw (e, _>>=_, lt-leb a limit w, guard)
-    go failed e = rw (e, _>>=_)
+  pub capped-over : (v i : ℕ) → limit < v → bad ≡ Digits v i
+  unfolding readAt given capped _>>=_ guard
+  capped-over v i h = go (digits v i (drop i s)) refl
+    where
+      go : (x : Got ℕ) → digits v i (drop i s) ≡ x → bad ≡ Digits v i
+      go (got a m t) e = let g = digits-grow (drop i s) v i a m t e in let w : limit < a = omega arith in rw (e, _>>=_, lt-leb a limit w, guard)
+      go failed e = rw (e, _>>=_)
 
 -- one digit more, as the code answers it
 abbrev pub Push : ℕ → ℕ → Pushed
@@ -104,19 +106,6 @@ decimal-digit limit s i h e d = rw (add-one, drop-cons s i 0 h, ne-eqb (getD s i
 pub decimal-other : (limit : ℕ) (s : List ℕ) (i : ℕ) → i < length s → (getD s i 0 ≡ 48 → ⊥) → isDigit (getD s i 0) ≡ false → upTo limit i (drop i s) ≡ failed
 unfolding upTo capped _>>=_ decimal
 decimal-other limit s i h e d = rw (drop-cons s i 0 h, ne-eqb (getD s i 0) 48 e, d, _>>=_, decimal)
-
--- a number read up to a limit is within it
-pub upTo-within : (limit n : ℕ) (u : List ℕ) {v m : ℕ} {t : List ℕ} → upTo limit n u ≡ got v m t → v ≤ limit
-unfolding upTo capped _>>=_ guard
-upTo-within limit n u {v} {m} {t} h = go (decimal n u) refl
-  where
-    test : (a k : ℕ) (r : List ℕ) → decimal n u ≡ got a k r → (b : Bool) → leb a limit ≡ b → v ≤ limit
-    test a k r e true q = let g : _≡_ {A = Got ℕ} (got a k r) (got v m t) = rw (e, q, guard, _>>=_) at h in let x : a ≡ v = cc in omega (arith, leb-true a limit q)
-    test a k r e false q = let g : _≡_ {A = Got ℕ} failed (got v m t) = rw (e, q, guard, _>>=_) at h in let o : _≡_ {A = ℕ} 0 1 = cc in absurd (omega arith)
-
-    go : (x : Got ℕ) → decimal n u ≡ x → v ≤ limit
-    go (got a k r) e = test a k r e (leb a limit) refl
-    go failed e = let g : _≡_ {A = Got ℕ} failed (got v m t) = rw (e, _>>=_) at h in let o : _≡_ {A = ℕ} 0 1 = cc in absurd (omega arith)
 
 -- an enum number
 pub index-got : (count : ℕ) (s : List ℕ) (n : ℕ) {v m : ℕ} → word n (drop n s) ≡ got v m (drop m s) → v < count → index count n (drop n s) ≡ got v m (drop m s)
@@ -208,32 +197,53 @@ sign-none s i h e = rw (drop-cons s i 0 h, ne-eqb (getD s i 0) minus e, sign)
 
 -- a span: one byte more, none more, no byte more
 module _ (p : ℕ → Bool) where
-  pub run-step : (k : ℕ) (s : List ℕ) (i : ℕ) → i < length s → p (getD s i 0) ≡ true → run p k i (drop i s) ≡ run p (suc k) (i + 1) (drop (i + 1) s)
+  run-step : (k : ℕ) (s : List ℕ) (i : ℕ) → i < length s → p (getD s i 0) ≡ true → run p k i (drop i s) ≡ run p (suc k) (i + 1) (drop (i + 1) s)
   unfolding run
   run-step k s i h d = rw (add-one, drop-cons s i 0 h, d, run)
 
-  pub run-stop : (k : ℕ) (s : List ℕ) (i : ℕ) → i < length s → p (getD s i 0) ≡ false → run p k i (drop i s) ≡ got k i (drop i s)
+  run-stop : (k : ℕ) (s : List ℕ) (i : ℕ) → i < length s → p (getD s i 0) ≡ false → run p k i (drop i s) ≡ got k i (drop i s)
   unfolding run
   run-stop k s i h d = rw (drop-cons s i 0 h, d, run)
 
-  pub run-past : (k : ℕ) (s : List ℕ) (i : ℕ) → length s ≤ i → run p k i (drop i s) ≡ got k i (drop i s)
+  run-past : (k : ℕ) (s : List ℕ) (i : ℕ) → length s ≤ i → run p k i (drop i s) ≡ got k i (drop i s)
   unfolding run
   run-past k s i h = rw (drop-of-length-le s h)
 
   -- the position after a span, as the code answers it
-  abbrev pub End : List ℕ → ℕ → ℕ → ℕ
-  End s k i = readAt (λ k n. n) 0 (run p k) s i
+  abbrev pub End : List ℕ → ℕ → ℕ
+  End s i = readAt (λ k n. n) 0 (run p 0) s i
 
-  pub end-step : (s : List ℕ) (at i : ℕ) → at ≤ i → i < length s → p (getD s i 0) ≡ true → End s (i + 1 - at) (i + 1) ≡ End s (i - at) i
-  unfolding readAt given
-  end-step s at i l h d = let e : i + 1 - at ≡ suc (i - at) = omega arith in rw (e, run-step (i - at) s i h d)
+  -- however many bytes passed before
+  end-count : (u : List ℕ) (k n : ℕ) → given (λ k n. n) 0 (run p (suc k) n u) ≡ given (λ k n. n) 0 (run p k n u)
+  unfolding run given
+  end-count [] k n = refl
+  end-count (x ∷ u) k n = go (p x) refl (end-count u (suc k) (suc n))
+    where
+      go : (b : Bool) → p x ≡ b → given (λ k n. n) 0 (run p (suc (suc k)) (suc n) u) ≡ given (λ k n. n) 0 (run p (suc k) (suc n) u) → given (λ k n. n) 0 (run p (suc k) n (x ∷ u)) ≡ given (λ k n. n) 0 (run p k n (x ∷ u))
+      go true e ih = rw (e, run) ih
+      go false e ih = rw (e, run)
 
-  pub end-here : (s : List ℕ) (k i : ℕ) → run p k i (drop i s) ≡ got k i (drop i s) → i ≡ End s k i
+  pub end-step : (s : List ℕ) (i : ℕ) → i < length s → p (getD s i 0) ≡ true → End s (i + 1) ≡ End s i
   unfolding readAt given
-  end-here s k i e = rw e
+  end-step s i h d = rw (run-step 0 s i h d) (sym (end-count (drop (i + 1) s) 0 (i + 1)))
+
+  pub end-stop : (s : List ℕ) (i : ℕ) → i < length s → p (getD s i 0) ≡ false → i ≡ End s i
+  unfolding readAt given
+  end-stop s i h d = rw (run-stop 0 s i h d)
+
+  pub end-past : (s : List ℕ) (i : ℕ) → length s ≤ i → i ≡ End s i
+  unfolding readAt given
+  end-past s i h = rw (run-past 0 s i h)
+
+  -- many bytes at once
+  pub end-steps : (s : List ℕ) (i n : ℕ) → i + n ≤ length s → Every (λ j. p (getD s (i + j) 0)) n → End s (i + n) ≡ End s i
+  end-steps s i zero h e = let q : i + 0 ≡ i = omega arith in rw q
+  end-steps s i (suc n) h e =
+      let q : i + suc n ≡ i + n + 1 = omega arith in
+      rw q (end-step s (i + n) (omega arith) (e n (omega arith)) ∙ end-steps s i n (omega arith) (λ j l. e j (omega arith)))
 
   -- what the position after a span says of it
-  pub end-run : (s : List ℕ) (n : ℕ) {m : ℕ} → m ≡ End s 0 n → (n ≤ m) × (run p 0 n (drop n s) ≡ got (m - n) m (drop m s))
+  pub end-run : (s : List ℕ) (n : ℕ) {m : ℕ} → m ≡ End s n → (n ≤ m) × (run p 0 n (drop n s) ≡ got (m - n) m (drop m s))
   unfolding readAt given
   end-run s n {m} h = go (run p 0 n (drop n s)) refl
     where

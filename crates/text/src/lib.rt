@@ -1,8 +1,10 @@
 // Reading a text from the left: each function reads one field from a position on.
 ghost use mathlib.Core.Path.{_≡_};
 ghost use mathlib.Core.Bool.{true, false};
-ghost use Prim.Native.Nat.{_+_, _*_};
+ghost use mathlib.Core.Logic.{_↔_};
+ghost use Prim.Native.Nat.{ℕ, _+_, _*_, _≤_, _<_};
 ghost use lib.Dec.{leb};
+ghost use lib.ListN.{length, getD};
 ghost use Rattle.text.specs.declared.Skipped.{Skipped};
 ghost use Rattle.text.specs.declared.DecimalRead.{DecimalRead};
 ghost use Rattle.text.specs.declared.WordRead.{WordRead};
@@ -68,6 +70,8 @@ const COMMA: u8 = 44;
 
 const MINUS: u8 = 45;
 
+const MAX_WORD: u64 = 4294967295;
+
 // The byte `b` itself.
 pub fn skip(listing: &[u8], at: usize, b: u8) -> Skipped
     ensures { λ r. ⌜ r ≡ readAt (λ x n. Skipped.To n) Skipped.Failed (byte b) (now (listing .entry)) at ⌝ }
@@ -112,14 +116,11 @@ pub fn is_name_byte(b: u8) -> bool
     b == 95
 }
 
-// A lower-case hex digit.
+// A lower-case hex digit, tested without a branch.
 pub fn is_hex_digit(b: u8) -> bool
     ensures { λ r. ⌜ r ≡ isHexDigit b ⌝ }
 {
-    if is_digit(b) {
-        return true;
-    }
-    is_within(97, 102, b)
+    ((48 <= b) & (b <= 57)) | ((97 <= b) & (b <= 102))
 }
 
 fn wide(b: u8) -> u64
@@ -182,6 +183,27 @@ pub fn read_decimal(listing: &[u8], at: usize, limit: u64) -> DecimalRead
     DecimalRead::Failed
 }
 
+// The digits from `at` on, after the number `first`, as a number of 32 bits. Ten times such a number and a digit fit 64 bits.
+fn word_digits(listing: &[u8], at: usize, first: u64) -> WordRead
+    requires { ⌜ first ≤ 4294967295 ⌝ }
+    ensures { λ r. ⌜ r ≡ readAt WordRead.Got WordRead.Failed (capped 4294967295 (digits first)) (now (listing .entry)) at ⌝ }
+{
+    let mut v = first;
+    let mut i = at;
+    while i < listing.len() {
+        let b = listing[i];
+        if !is_digit(b) {
+            return WordRead::Got(v as u32, i);
+        }
+        v = v * 10 + (wide(b) - 48);
+        if MAX_WORD < v {
+            return WordRead::Failed;
+        }
+        i += 1;
+    }
+    WordRead::Got(v as u32, i)
+}
+
 // A field that is a number of 32 bits.
 pub fn read_word(listing: &[u8], at: usize) -> WordRead
     ensures { λ r. ⌜ r ≡ readAt WordRead.Got WordRead.Failed word (now (listing .entry)) at ⌝ }
@@ -189,10 +211,17 @@ pub fn read_word(listing: &[u8], at: usize) -> WordRead
     let Skipped::To(n) = skip(listing, at, COMMA) else {
         return WordRead::Failed;
     };
-    let DecimalRead::Got(v, m) = read_decimal(listing, n, 4294967295) else {
+    if listing.len() <= n {
         return WordRead::Failed;
-    };
-    WordRead::Got(v as u32, m)
+    }
+    let first = listing[n];
+    if first == 48 {
+        return WordRead::Got(0, n + 1);
+    }
+    if is_digit(first) {
+        return word_digits(listing, n + 1, wide(first) - 48);
+    }
+    WordRead::Failed
 }
 
 // A field that is an enum number below `count`.
@@ -290,8 +319,22 @@ pub fn name_end(listing: &[u8], at: usize) -> usize
     i
 }
 
-// The position after the hex digits from `at` on.
-pub fn hex_end(listing: &[u8], at: usize) -> usize
+// Whether the 16 bytes from `at` on are hex digits. Each is tested, with no way out before the last, so that they are tested together.
+fn is_hex_run(listing: &[u8], at: usize) -> bool
+    requires { ⌜ at + 16 ≤ length (now listing) ⌝ }
+    ensures { λ r. ⌜ (r ≡ true) ↔ ((j : ℕ) → j < 16 → isHexDigit (getD (now (listing .entry)) (at + j) 0) ≡ true) ⌝ }
+{
+    let mut ok = true;
+    let mut k: usize = 0;
+    while k < 16 {
+        ok = ok & is_hex_digit(listing[at + k]);
+        k += 1;
+    }
+    ok
+}
+
+// The position after the hex digits from `at` on, byte by byte.
+fn hex_rest(listing: &[u8], at: usize) -> usize
     ensures { λ r. ⌜ r ≡ readAt (λ k n. n) 0 (run isHexDigit 0) (now (listing .entry)) at ⌝ }
 {
     let mut i = at;
@@ -302,6 +345,23 @@ pub fn hex_end(listing: &[u8], at: usize) -> usize
         i += 1;
     }
     i
+}
+
+// The position after the hex digits from `at` on: 16 at a time while all are digits, the rest byte by byte. A byte is read at most twice.
+pub fn hex_end(listing: &[u8], at: usize) -> usize
+    ensures { λ r. ⌜ r ≡ readAt (λ k n. n) 0 (run isHexDigit 0) (now (listing .entry)) at ⌝ }
+{
+    if listing.len() < at {
+        return at;
+    }
+    let mut i = at;
+    while 16 <= listing.len() - i {
+        if !is_hex_run(listing, i) {
+            return hex_rest(listing, i);
+        }
+        i += 16;
+    }
+    hex_rest(listing, i)
 }
 
 // A field that is a name: one or more bytes.

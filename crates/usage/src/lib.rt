@@ -10,7 +10,7 @@ ghost use Rattle.rules.specs.Table.{params};
 ghost use Rattle.rules.specs.Usage.{take as takeOf};
 ghost use Rattle.names.specs.Items.{Inside, foundIn};
 ghost use Rattle.usage.specs.Taken.{isTaken, withBit, firstFree, isRun};
-ghost use Rattle.rules.specs.Usage.{usage, usageFactor, usageInner, usageFactors};
+ghost use Rattle.rules.specs.Usage.{usage, usageInner, usageFactors};
 ghost use Rattle.rows.specs.Rows.{lineIn};
 ghost use Rattle.reader.specs.Spells.{SpellsExpression, SpellsFactor, SpellsFactors};
 ghost use Rattle.nodes.specs.Stands.{ExpressionAt, FactorAt, FactorsAt};
@@ -23,7 +23,9 @@ ghost use Rattle.rules.specs.Transfer.{transfer};
 ghost use Rattle.names.specs.Items.{ItemsAt};
 ghost use lib.ListN.{replicate};
 ghost use Rattle.usage.specs.Tables.{noPlace, added, Built, agreeAt};
-ghost use Rattle.usage.specs.Walk.{partsOf, SpellsTwo, TwoAt, usageTwo, Walks};
+ghost use Rattle.limits.specs.Somewhere.{Somewhere};
+ghost use Rattle.ast.specs.Tree.{Expression, Factor};
+ghost use Rattle.usage.specs.Walk.{SpellsExpressions, ExpressionsAt, usageAll, FactorParts, PartsAre, Walks};
 use ast::Checked;
 use ast::CompileError;
 use ast::ErrorKind;
@@ -60,13 +62,12 @@ pub struct Used {
     pub answer: Answer,
 }
 
-// What an expression's line says of the names below it: a name itself, or what stands on the rows after it.
+// What an expression's line says of the names in it: a name itself, or how many expressions, or factors of a multi-signature, stand below
+// it, and the row of the first.
 pub enum Parts {
     Named(Location, Place),
-    Nothing,
-    One,
-    Two,
-    Signatures,
+    Expressions(u32, usize),
+    Factors(u32, usize),
 }
 
 // Whether position k is taken.
@@ -167,21 +168,38 @@ pub fn take(listing: &[u8], table: &[u32], i: usize, loc: Location, x: Place, pa
     pass(mark(path, k, (i + 1) as u32), i + 1)
 }
 
-fn parts_of(line: ExpressionLine) -> Parts
-    ensures { λ r. ⌜ r ≡ partsOf line ⌝ }
+// Below a signature check, whose factor stands at row i.
+fn signatures_at(table: &[u32], i: usize) -> Parts
+    requires { ⌜ Somewhere (λ s. FactorAt s (now table) i) ⌝ }
+    ensures { λ r. ⌜ ((s : List ℕ) (f : Factor) (j : ℕ) → SpellsFactor (lineIn (now (table .entry))) s i f j → FactorParts (lineIn (now (table .entry))) s i f j r) ⌝ }
 {
+    let line = factor_at(table, i);
+    let first = i + 1;
+    match line {
+        FactorLine::SingleSigFactor(_) => Parts::Expressions(2, first),
+        FactorLine::MultiSigFactor(_, _, n) => Parts::Factors(n, first),
+    }
+}
+
+// Below the expression at row i.
+fn parts_at(table: &[u32], i: usize) -> Parts
+    requires { ⌜ Somewhere (λ s. ExpressionAt s (now table) i) ⌝ }
+    ensures { λ r. ⌜ ((s : List ℕ) (e : Expression) (j : ℕ) → SpellsExpression (lineIn (now (table .entry))) s i e j → PartsAre (lineIn (now (table .entry))) s i e j r) ⌝ }
+{
+    let line = expression_at(table, i);
+    let first = i + 1;
     match line {
         ExpressionLine::Variable(loc, x) => Parts::Named(loc, x),
-        ExpressionLine::NumberLiteral(_, _) => Parts::Nothing,
-        ExpressionLine::BooleanLiteral(_, _) => Parts::Nothing,
-        ExpressionLine::StringLiteral(_, _, _) => Parts::Nothing,
-        ExpressionLine::LogicalExpression(_, _) => Parts::Two,
-        ExpressionLine::CompareExpression(_, _) => Parts::Two,
-        ExpressionLine::BinaryMathExpression(_, _) => Parts::Two,
-        ExpressionLine::UnaryMathExpression(_, _) => Parts::One,
-        ExpressionLine::UnaryCryptoExpression(_, _) => Parts::One,
-        ExpressionLine::ByteExpression(_) => Parts::One,
-        ExpressionLine::CheckSigExpression(_) => Parts::Signatures,
+        ExpressionLine::NumberLiteral(_, _) => Parts::Expressions(0, first),
+        ExpressionLine::BooleanLiteral(_, _) => Parts::Expressions(0, first),
+        ExpressionLine::StringLiteral(_, _, _) => Parts::Expressions(0, first),
+        ExpressionLine::LogicalExpression(_, _) => Parts::Expressions(2, first),
+        ExpressionLine::CompareExpression(_, _) => Parts::Expressions(2, first),
+        ExpressionLine::BinaryMathExpression(_, _) => Parts::Expressions(2, first),
+        ExpressionLine::UnaryMathExpression(_, _) => Parts::Expressions(1, first),
+        ExpressionLine::UnaryCryptoExpression(_, _) => Parts::Expressions(1, first),
+        ExpressionLine::ByteExpression(_) => Parts::Expressions(1, first),
+        ExpressionLine::CheckSigExpression(_) => signatures_at(table, first),
     }
 }
 
@@ -190,41 +208,47 @@ pub fn check_variable(listing: &[u8], table: &[u32], i: usize, path: Path) -> Us
     requires { ⌜ ExpressionAt (now listing) (now table) i × WellFormed (now listing) (now table) path ⌝ }
     ensures { λ r. ⌜ Walks (SpellsExpression (lineIn (now (table .entry))) (now (listing .entry))) usage (now (listing .entry)) (now (table .entry)) i path r ⌝ }
 {
-    let line = expression_at(table, i);
-    let parts = parts_of(line);
-    let first = i + 1;
-    match parts {
-        Parts::Named(loc, x) => take(listing, table, i, loc, x, path),
-        Parts::Nothing => pass(path, first),
-        Parts::One => check_variable(listing, table, first, path),
-        Parts::Two => check_two(listing, table, first, path),
-        Parts::Signatures => check_factor(listing, table, first, path),
-    }
+    check_variables(listing, table, i, 1, path)
 }
 
-// Left before right, signature before key.
-fn check_two(listing: &[u8], table: &[u32], i: usize, path: Path) -> Used
-    requires { ⌜ TwoAt (now listing) (now table) i × WellFormed (now listing) (now table) path ⌝ }
-    ensures { λ r. ⌜ Walks (SpellsTwo (lineIn (now (table .entry))) (now (listing .entry))) usageTwo (now (listing .entry)) (now (table .entry)) i path r ⌝ }
+// The names of n expressions, one after the other: left before right, signature before key. What stands below a line is counted among
+// what is still due, so that the path is not handed down.
+fn check_variables(listing: &[u8], table: &[u32], i: usize, n: u32, path: Path) -> Used
+    requires { ⌜ ExpressionsAt (now listing) (now table) n i × WellFormed (now listing) (now table) path ⌝ }
+    ensures { λ r. ⌜ Walks (SpellsExpressions (lineIn (now (table .entry))) (now (listing .entry)) n) usageAll (now (listing .entry)) (now (table .entry)) i path r ⌝ }
 {
-    let left = check_variable(listing, table, i, path);
-    let answer = left.answer;
-    match answer {
-        Answer::Pass(next) => check_variable(listing, table, next, left.path),
-        Answer::Fault(_) => left,
+    let mut out = path;
+    let mut next = i;
+    let mut due = n;
+    while 0 < due {
+        due -= 1;
+        let parts = parts_at(table, next);
+        match parts {
+            Parts::Expressions(count, first) => {
+                due += count;
+                next = first;
+            }
+            Parts::Named(loc, x) => {
+                let used = take(listing, table, next, loc, x, out);
+                let answer = used.answer;
+                let Answer::Pass(m) = answer else {
+                    return used;
+                };
+                next = m;
+                out = used.path;
+            }
+            Parts::Factors(count, first) => {
+                let used = check_factors(listing, table, first, count, out);
+                let answer = used.answer;
+                let Answer::Pass(m) = answer else {
+                    return used;
+                };
+                next = m;
+                out = used.path;
+            }
+        }
     }
-}
-
-fn check_factor(listing: &[u8], table: &[u32], i: usize, path: Path) -> Used
-    requires { ⌜ FactorAt (now listing) (now table) i × WellFormed (now listing) (now table) path ⌝ }
-    ensures { λ r. ⌜ Walks (SpellsFactor (lineIn (now (table .entry))) (now (listing .entry))) usageFactor (now (listing .entry)) (now (table .entry)) i path r ⌝ }
-{
-    let line = factor_at(table, i);
-    let first = i + 1;
-    match line {
-        FactorLine::SingleSigFactor(_) => check_two(listing, table, first, path),
-        FactorLine::MultiSigFactor(_, _, n) => check_factors(listing, table, first, n, path),
-    }
+    pass(out, next)
 }
 
 // A factor of a multi-signature: one that is a multi-signature itself is skipped.
@@ -234,7 +258,7 @@ fn check_inner(listing: &[u8], table: &[u32], i: usize, path: Path) -> Used
 {
     let line = factor_at(table, i);
     match line {
-        FactorLine::SingleSigFactor(_) => check_two(listing, table, i + 1, path),
+        FactorLine::SingleSigFactor(_) => check_variables(listing, table, i + 1, 2, path),
         FactorLine::MultiSigFactor(_, _, _) => pass(path, skip_factor(table, i)),
     }
 }
@@ -374,8 +398,14 @@ pub fn transfer_prefix_consumption(
         if !same_item(listing, table, from, to, k) {
             return refuse(to, ErrorKind::DeclarationPathMismatch, loc);
         }
-        let p = from.places[k as usize];
-        out = mark(out, k, p.line);
+        let at = k as usize;
+        let p = from.places[at];
+        let q = out.places[at];
+        out.places[at] = NamePlace {
+            row: q.row,
+            line: p.line,
+        };
+        out.taken = with_bit(out.taken, k);
         k += 1;
     }
     pass(out, 0)

@@ -28,8 +28,7 @@ use Rattle.limits.proofs.+skip_expression+skip_factor+skip_factors.Lts-
 use Rattle.limits.proofs.skip_factors.Reads as skip-factors
 use Rattle.limits.proofs.skip_factors.Kinds as skip-factors-kinds
 use Rattle.limits.proofs.+skip_expression+skip_factor+skip_factors.Lts-skip_factors as skip-factors-lts
-use Rattle.limits.proofs.operands_of.Reads as operands-of-reads
-use Rattle.nodes.proofs.expression_at.Reads as expression-at-reads
+use Rattle.limits.proofs.operands_at.Reads as operands-at-reads
 use Rattle.nodes.proofs.factor_at.Reads as factor-at-reads
 use Rattle.limits.proofs.+skip_expression+skip_factor+skip_factors.{statement}
 use Rattle.limits.proofs.+skip_expression+skip_factor+skip_factors.Tie.{close}
@@ -81,10 +80,8 @@ skip-factors-below t =
 
 abbrev expression-calls : ℕ → skip-expression-lts.Claims
 expression-calls t = (
-  expression-at-reads.Asked,
-  expression-at-reads.Learnt,
-  operands-of-reads.Asked,
-  operands-of-reads.Learnt,
+  operands-at-reads.Asked,
+  operands-at-reads.Learnt,
   skip-expression-below t,
   skip-expression.Post,
   skip-factor-below t,
@@ -104,18 +101,17 @@ factor-calls t = (
 abbrev factors-calls : ℕ → skip-factors-lts.Claims
 factors-calls t = (skip-factor-below t, skip-factor.Post)
 
-skip-expression-expression-at-requires : (t : ℕ) → skip-expression-lts.Need-expression-at-requires (expression-calls t) (skip-expression-at t) skip-expression.Post
-skip-expression-expression-at-requires t c κs = expression-holds (c .before .pre .1 .1)
-
-skip-expression-operands-of-requires : (t : ℕ) → skip-expression-lts.Need-operands-of-requires (expression-calls t) (skip-expression-at t) skip-expression.Post
-skip-expression-operands-of-requires t c κs = search needs
+skip-expression-operands-at-requires : (t : ℕ) → skip-expression-lts.Need-operands-at-requires (expression-calls t) (skip-expression-at t) skip-expression.Post
+skip-expression-operands-at-requires t c κs = expression-holds (c .before .pre .1 .1)
 
 -- what stands below any expression at this row
-operands : (t : ℕ) (c : skip-expression-lts.After-operands-of (expression-calls t) (skip-expression-at t) skip-expression.Post) → let a = c .before .before .before .args in (p : Operands) → c .operands-of .result ≡ p → (s : List ℕ) (e : Expression) (j : ℕ) → SpellsExpression (lineIn (a .table .now)) s (a .i) e j → Below (lineIn (a .table .now)) s (overflow s (c .before .expression-at .result)) p (a .i + 1) e j
-operands t c p h s e j sp = operands-are (lineIn (c .before .before .before .args .table .now)) s sp (c .before .expression-at .ensures) refl refl (sym (c .operands-of .ensures) ∙ h)
+operands : (t : ℕ) (c : skip-expression-lts.After-operands-at (expression-calls t) (skip-expression-at t) skip-expression.Post) → let a = c .before .before .args in (p : Operands) → c .operands-at .result ≡ p → (s : List ℕ) (e : Expression) (j : ℕ) → SpellsExpression (lineIn (a .table .now)) s (a .i) e j → Below (lineIn (a .table .now)) s (overflow s (expression-holds (c .before .before .pre .1 .1) .held)) p (a .i + 1) e j
+operands t c p h s e j sp =
+    let held = expression-holds (c .before .before .pre .1 .1) in
+    operands-are (lineIn (c .before .before .args .table .now)) s sp (held .is) refl refl (sym (c .operands-at .ensures (held .held) (held .is)) ∙ h)
 
 skip-expression-add-first : (t : ℕ) → skip-expression-lts.Need-add-first (expression-calls t) (skip-expression-at t) skip-expression.Post
-skip-expression-add-first t c = let p = c .before .before .before in omega (arith, expression-holds (p .pre .1 .1) .room)
+skip-expression-add-first t c = let p = c .before .before in omega (arith, expression-holds (p .pre .1 .1) .room)
 
 skip-expression-enum-told : (t : ℕ) → skip-expression-lts.Need-enum-told (expression-calls t) (skip-expression-at t) skip-expression.Post
 skip-expression-enum-told t c = search needs
@@ -126,7 +122,7 @@ skip-expression-enum-told-2 t c = search needs
 skip-expression-skip-expression-requires : (t : ℕ) → skip-expression-lts.Need-skip-expression-requires (expression-calls t) (skip-expression-at t) skip-expression.Post
 skip-expression-skip-expression-requires t c κs =
     let o = c .before .before in
-    let p = o .before .before .before in
+    let p = o .before .before in
     let st = p .pre .1 .1 in
     let b = operands t o _ (c .enum-told2 .given .1) _ _ _ (st .spells) in
     (omega (arith, p .pre .0, expression-holds st .room), (p .pre .1 .0, below (SpellsExpression (lineIn (p .args .table .now)) (p .pre .1 .0)) st (b .1) (omega arith)))
@@ -137,7 +133,7 @@ skip-expression-enum-told-3 t c = search needs
 skip-expression-skip-expression-requires-2 : (t : ℕ) → skip-expression-lts.Need-skip-expression-requires-2 (expression-calls t) (skip-expression-at t) skip-expression.Post
 skip-expression-skip-expression-requires-2 t c κs =
     let o = c .before .before in
-    let p = o .before .before .before in
+    let p = o .before .before in
     let st = p .pre .1 .1 in
     let (a, b, k, u, v, q) = operands t o _ (c .enum-told3 .given .1) _ _ _ (st .spells) in
     let L = lineIn (p .args .table .now) in
@@ -146,7 +142,7 @@ skip-expression-skip-expression-requires-2 t c κs =
 skip-expression-skip-expression-requires-3 : (t : ℕ) → skip-expression-lts.Need-skip-expression-requires-3 (expression-calls t) (skip-expression-at t) skip-expression.Post
 skip-expression-skip-expression-requires-3 t c κs =
     let o = c .before .before .before in
-    let p = o .before .before .before in
+    let p = o .before .before in
     let st = p .pre .1 .1 in
     let (a, b, k, u, v, q) = operands t o _ (c .before .enum-told3 .given .1) _ _ _ (st .spells) in
     let L = lineIn (p .args .table .now) in
@@ -159,7 +155,7 @@ skip-expression-enum-told-4 t c = search needs
 skip-expression-skip-factor-requires : (t : ℕ) → skip-expression-lts.Need-skip-factor-requires (expression-calls t) (skip-expression-at t) skip-expression.Post
 skip-expression-skip-factor-requires t c κs =
     let o = c .before .before in
-    let p = o .before .before .before in
+    let p = o .before .before in
     let st = p .pre .1 .1 in
     let b = operands t o _ (c .enum-told4 .given .1) _ _ _ (st .spells) in
     (omega (arith, p .pre .0, expression-holds st .room), (p .pre .1 .0, below (SpellsFactor (lineIn (p .args .table .now)) (p .pre .1 .0)) st (b .1) (omega arith)))
@@ -281,8 +277,7 @@ pub +skip-expression+skip-factor+skip-factors-spec : {M : Type 1} → statement 
     close μ-skip-expression μ-skip-factor μ-skip-factors (λ t. skip-expression-lts.spec (expression-calls t)
     (skip-expression-at t)
     skip-expression.Post
-    (skip-expression-expression-at-requires t)
-    (skip-expression-operands-of-requires t)
+    (skip-expression-operands-at-requires t)
     (skip-expression-add-first t)
     (skip-expression-enum-told t)
     (skip-expression-enum-told-2 t)

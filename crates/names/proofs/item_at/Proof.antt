@@ -1,96 +1,29 @@
-use Prim.Native.Nat.{ℕ}
-use native.Mathlib.Omega.{arith}
-use mathlib.Core.Path.{_≡_, sym, _∙_}
+use mathlib.Core.Path.{refl}
 use borrow.Author.Needs.{needs}
-use Rattle.nodes.proofs.Laws.{other-line}
+use Rattle.listing.specs.Kinds.{itemLine}
+use Rattle.rows.proofs.Forms.{item-row}
+use Rattle.nodes.proofs.Laws.{line-of}
 use Rattle.names.proofs.item_at.Statement.{statement}
 use Rattle.names.proofs.item_at.Tie as tie
 
-row-requires : tie.Need-row-requires
-row-requires c κs = search needs
+row-in-requires : tie.Need-row-in-requires
+row-in-requires c κs = search needs
 
-enum-known-l : tie.Need-enum-known-l
-enum-known-l c = search needs
+place-in-requires : tie.Need-place-in-requires
+place-in-requires c κs = search needs
 
-enum-told : tie.Need-enum-told
-enum-told c = search needs
+type-from-requires : tie.Need-type-from-requires
+type-from-requires c κs = search needs
 
-no-item-requires : tie.Need-no-item-requires
-no-item-requires c κs = search needs
-
-enum-told-2 : tie.Need-enum-told-2
-enum-told-2 c = search needs
-
-no-item-requires-2 : tie.Need-no-item-requires-2
-no-item-requires-2 c κs = search needs
-
-enum-told-3 : tie.Need-enum-told-3
-enum-told-3 c = search needs
-
-no-item-requires-3 : tie.Need-no-item-requires-3
-no-item-requires-3 c κs = search needs
-
-enum-told-4 : tie.Need-enum-told-4
-enum-told-4 c = search needs
-
-no-item-requires-4 : tie.Need-no-item-requires-4
-no-item-requires-4 c κs = search needs
-
-enum-told-5 : tie.Need-enum-told-5
-enum-told-5 c = search needs
-
-no-item-requires-5 : tie.Need-no-item-requires-5
-no-item-requires-5 c κs = search needs
-
-enum-told-6 : tie.Need-enum-told-6
-enum-told-6 c = search needs
-
-no-item-requires-6 : tie.Need-no-item-requires-6
-no-item-requires-6 c κs = search needs
+part-in-requires : tie.Need-part-in-requires
+part-in-requires c κs = search needs
 
 returns : tie.Need-returns
-returns c = sym (c .before .before .before .row .ensures) ∙ c .before .l .given .1
-
-returns-2 : tie.Need-returns-2
-returns-2 c = other-line (c .before .before .before .before .before .pre) (c .before .before .before .row .ensures) (c .before .enum-told .given .1) (λ x h. let z : _≡_ {A = ℕ} 0 1 = cc in omega arith)
-
-returns-3 : tie.Need-returns-3
-returns-3 c = other-line (c .before .before .before .before .before .pre) (c .before .before .before .row .ensures) (c .before .enum-told2 .given .1) (λ x h. let z : _≡_ {A = ℕ} 0 1 = cc in omega arith)
-
-returns-4 : tie.Need-returns-4
-returns-4 c = other-line (c .before .before .before .before .before .pre) (c .before .before .before .row .ensures) (c .before .enum-told3 .given .1) (λ x h. let z : _≡_ {A = ℕ} 0 1 = cc in omega arith)
-
-returns-5 : tie.Need-returns-5
-returns-5 c = other-line (c .before .before .before .before .before .pre) (c .before .before .before .row .ensures) (c .before .enum-told4 .given .1) (λ x h. let z : _≡_ {A = ℕ} 0 1 = cc in omega arith)
-
-returns-6 : tie.Need-returns-6
-returns-6 c = other-line (c .before .before .before .before .before .pre) (c .before .before .before .row .ensures) (c .before .enum-told5 .given .1) (λ x h. let z : _≡_ {A = ℕ} 0 1 = cc in omega arith)
-
-returns-7 : tie.Need-returns-7
-returns-7 c = other-line (c .before .before .before .before .before .pre) (c .before .before .before .row .ensures) (c .before .enum-told6 .given .1) (λ x h. let z : _≡_ {A = ℕ} 0 1 = cc in omega arith)
+returns c =
+    let a = c .before .before .before .before .before .args in
+    line-of itemLine (a .table .now) (a .i) (c .before .before .before .row-in .ensures) (c .before .before .before .before .before .pre) (rw (c .before .before .place-in .ensures, c .before .type-from .ensures, c .part-in .ensures) (item-row (c .before .before .before .row-in .result))) refl
 
 pub item-at-spec : {M : Type 1} → statement M
 item-at-spec =
     tie.close
-    (tie.spec
-    row-requires
-    enum-known-l
-    enum-told
-    no-item-requires
-    enum-told-2
-    no-item-requires-2
-    enum-told-3
-    no-item-requires-3
-    enum-told-4
-    no-item-requires-4
-    enum-told-5
-    no-item-requires-5
-    enum-told-6
-    no-item-requires-6
-    returns
-    returns-2
-    returns-3
-    returns-4
-    returns-5
-    returns-6
-    returns-7)
+    (tie.spec row-in-requires place-in-requires type-from-requires part-in-requires returns)

@@ -1,16 +1,16 @@
 use Prim.Native.Nat.{_+_, _-_, _≤_}
 use native.Mathlib.Omega.{arith}
-use mathlib.Core.Path.{_≡_, sym, _∙_}
+use mathlib.Core.Path.{_≡_, refl, sym, _∙_}
 use lib.ListN.{length}
-use Rattle.names.proofs.Laws.{sameFrom, same-start, same-done, same-more, same-less, parts-differ, parts-from}
+use Rattle.names.proofs.Laws.{sameFrom, same-done, same-more, same-less, parts-differ, parts-from}
 use Rattle.names.proofs.same_name.Statement.{statement}
 use Rattle.names.proofs.same_name.Tie as tie
 
 abbrev Inv-loop : tie.InvT-loop
-Inv-loop listing n i j k₀ k = (k ≤ n) × (i + n ≤ length listing) × (j + n ≤ length listing) × (sameFrom listing (i + k) (j + k) (n - k) ≡ sameFrom listing i j n)
+Inv-loop listing n i j k₀ k = (k ≤ n) × (i + n ≤ length listing) × (j + n ≤ length listing) × (sameFrom listing i j k ≡ sameFrom listing i j n)
 
 abbrev μ-loop : tie.MeasureT-loop
-μ-loop listing n i j k₀ k = n - k
+μ-loop listing n i j k₀ k = k
 
 returns : tie.Need-returns Inv-loop μ-loop
 returns c =
@@ -18,7 +18,10 @@ returns c =
     sym (parts-differ (a .listing .now) (a .a) (a .b) (c .before .before .pre .0) (c .before .before .pre .1) (c .if1 .taken))
 
 loop-holds : tie.Need-loop-holds Inv-loop μ-loop
-loop-holds c = let a = c .before .before .args in (omega arith, omega arith, omega arith, same-start (a .listing .now) (a .a .at) (a .b .at) (a .a .len))
+loop-holds c = (omega arith, omega arith, omega arith, refl)
+
+sub-k : tie.Need-sub-k Inv-loop μ-loop
+sub-k c = omega arith
 
 add-if2 : tie.Need-add-if2 Inv-loop μ-loop
 add-if2 c = omega arith
@@ -38,10 +41,7 @@ returns-2 c =
     let l = c .before .before .before .before .loop in
     sym (sym (parts-from (a .listing .now) (a .a) (a .b) (omega arith))
     ∙ sym (l .inv .3)
-    ∙ same-less (a .listing .now) (a .a .at) (a .b .at) (a .a .len) (l .k) (l .inv .1) (l .inv .2) (c .before .before .before .loop-test .taken) (c .if2 .taken))
-
-add-k : tie.Need-add-k Inv-loop μ-loop
-add-k c = omega arith
+    ∙ same-less (a .listing .now) (a .a .at) (a .b .at) (l .k) (omega arith) (omega arith) (omega arith) (c .if2 .taken))
 
 loop-less : tie.Need-loop-less Inv-loop μ-loop
 loop-less c = omega arith
@@ -50,13 +50,13 @@ loop-again : tie.Need-loop-again Inv-loop μ-loop
 loop-again c =
     let a = c .before .before .before .before .before .before .before .args in
     let l = c .before .before .before .before .loop in
-    (omega arith, l .inv .1, l .inv .2, same-more (a .listing .now) (a .a .at) (a .b .at) (a .a .len) (l .k) (l .inv .1) (l .inv .2) (c .before .before .before .loop-test .taken) (c .if2 .left) ∙ l .inv .3)
+    (omega arith, l .inv .1, l .inv .2, same-more (a .listing .now) (a .a .at) (a .b .at) (l .k) (omega arith) (omega arith) (omega arith) (c .if2 .left) ∙ l .inv .3)
 
 returns-3 : tie.Need-returns-3 Inv-loop μ-loop
 returns-3 c =
     let a = c .before .before .before .before .args in
     let l = c .before .loop in
-    sym (same-done (a .listing .now) (a .a .at) (a .b .at) (a .a .len) (l .k) (c .loop-test .left)) ∙ l .inv .3 ∙ parts-from (a .listing .now) (a .a) (a .b) (omega arith)
+    sym (same-done (a .listing .now) (a .a .at) (a .b .at) (l .k) (omega arith)) ∙ l .inv .3 ∙ parts-from (a .listing .now) (a .a) (a .b) (omega arith)
 
 pub same-name-spec : {M : Type 1} → statement M
 same-name-spec =
@@ -66,12 +66,12 @@ same-name-spec =
     μ-loop
     returns
     loop-holds
+    sub-k
     add-if2
     shared-slice-read-if2
     add-if2-2
     shared-slice-read-if2-2
     returns-2
-    add-k
     loop-less
     loop-again
     returns-3)

@@ -1,96 +1,107 @@
-use Prim.Native.Nat.{ℕ}
-use native.Mathlib.Omega.{arith}
-use mathlib.Core.Path.{_≡_, sym, _∙_}
+use mathlib.Core.Path.{refl}
 use borrow.Author.Needs.{needs}
-use Rattle.nodes.proofs.Laws.{other-line}
+use Rattle.listing.specs.Kinds.{expressionLine}
+use Rattle.rows.specs.Rows.{keptAs}
+use Rattle.rows.proofs.Forms.{expression-rest}
+use Rattle.nodes.proofs.Laws.{line-by, line-of}
 use Rattle.nodes.proofs.expression_at.Statement.{statement}
 use Rattle.nodes.proofs.expression_at.Tie as tie
 
-row-requires : tie.Need-row-requires
-row-requires c κs = search needs
+row-in-requires : tie.Need-row-in-requires
+row-in-requires c κs = search needs
 
-enum-known-l : tie.Need-enum-known-l
-enum-known-l c = search needs
+place-in-requires : tie.Need-place-in-requires
+place-in-requires c κs = search needs
 
-enum-told : tie.Need-enum-told
-enum-told c = search needs
+part-in-requires : tie.Need-part-in-requires
+part-in-requires c κs = search needs
 
-unplaced-requires : tie.Need-unplaced-requires
-unplaced-requires c κs = search needs
+signed-in-requires : tie.Need-signed-in-requires
+signed-in-requires c κs = search needs
 
-enum-told-2 : tie.Need-enum-told-2
-enum-told-2 c = search needs
+part-in-requires-2 : tie.Need-part-in-requires-2
+part-in-requires-2 c κs = search needs
 
-unplaced-requires-2 : tie.Need-unplaced-requires-2
-unplaced-requires-2 c κs = search needs
+logical-from-requires : tie.Need-logical-from-requires
+logical-from-requires c κs = search needs
 
-enum-told-3 : tie.Need-enum-told-3
-enum-told-3 c = search needs
+compare-from-requires : tie.Need-compare-from-requires
+compare-from-requires c κs = search needs
 
-unplaced-requires-3 : tie.Need-unplaced-requires-3
-unplaced-requires-3 c κs = search needs
+math-from-requires : tie.Need-math-from-requires
+math-from-requires c κs = search needs
 
-enum-told-4 : tie.Need-enum-told-4
-enum-told-4 c = search needs
+unary-from-requires : tie.Need-unary-from-requires
+unary-from-requires c κs = search needs
 
-unplaced-requires-4 : tie.Need-unplaced-requires-4
-unplaced-requires-4 c κs = search needs
-
-enum-told-5 : tie.Need-enum-told-5
-enum-told-5 c = search needs
-
-unplaced-requires-5 : tie.Need-unplaced-requires-5
-unplaced-requires-5 c κs = search needs
-
-enum-told-6 : tie.Need-enum-told-6
-enum-told-6 c = search needs
-
-unplaced-requires-6 : tie.Need-unplaced-requires-6
-unplaced-requires-6 c κs = search needs
+crypto-from-requires : tie.Need-crypto-from-requires
+crypto-from-requires c κs = search needs
 
 returns : tie.Need-returns
-returns c = sym (c .before .before .before .row .ensures) ∙ c .before .l .given .1
+unfolding keptAs
+returns c = line-by (c .before .before .before .before .before .args .table .now) (c .before .before .before .before .before .args .i) 118 (c .before .before .before .row-in .ensures) (c .before .match .keys1) (rw (c .before .before .place-in .ensures, c .part-in .ensures))
 
 returns-2 : tie.Need-returns-2
-returns-2 c = other-line (c .before .before .before .before .before .pre) (c .before .before .before .row .ensures) (c .before .enum-told .given .1) (λ x h. let z : _≡_ {A = ℕ} 0 1 = cc in omega arith)
+unfolding keptAs
+returns-2 c = line-by (c .before .before .before .before .before .args .table .now) (c .before .before .before .before .before .args .i) 110 (c .before .before .before .row-in .ensures) (c .before .match .keys2) (rw (c .before .before .place-in .ensures, c .signed-in .ensures))
 
 returns-3 : tie.Need-returns-3
-returns-3 c = other-line (c .before .before .before .before .before .pre) (c .before .before .before .row .ensures) (c .before .enum-told2 .given .1) (λ x h. let z : _≡_ {A = ℕ} 0 1 = cc in omega arith)
+unfolding keptAs
+returns-3 c = line-by (c .before .before .before .before .before .args .table .now) (c .before .before .before .before .before .args .i) 98 (c .before .before .before .row-in .ensures) (c .before .match .keys3) (rw (c .before .before .place-in .ensures))
 
 returns-4 : tie.Need-returns-4
-returns-4 c = other-line (c .before .before .before .before .before .pre) (c .before .before .before .row .ensures) (c .before .enum-told3 .given .1) (λ x h. let z : _≡_ {A = ℕ} 0 1 = cc in omega arith)
+unfolding keptAs
+returns-4 c = line-by (c .before .before .before .before .before .before .args .table .now) (c .before .before .before .before .before .before .args .i) 115 (c .before .before .before .before .row-in .ensures) (c .before .before .match .keys4) (rw (c .before .before .before .place-in .ensures, c .before .part-in2 .ensures))
 
 returns-5 : tie.Need-returns-5
-returns-5 c = other-line (c .before .before .before .before .before .pre) (c .before .before .before .row .ensures) (c .before .enum-told4 .given .1) (λ x h. let z : _≡_ {A = ℕ} 0 1 = cc in omega arith)
+unfolding keptAs
+returns-5 c = line-by (c .before .before .before .before .before .args .table .now) (c .before .before .before .before .before .args .i) 108 (c .before .before .before .row-in .ensures) (c .before .match .keys5) (rw (c .before .before .place-in .ensures, c .logical-from .ensures))
 
 returns-6 : tie.Need-returns-6
-returns-6 c = other-line (c .before .before .before .before .before .pre) (c .before .before .before .row .ensures) (c .before .enum-told5 .given .1) (λ x h. let z : _≡_ {A = ℕ} 0 1 = cc in omega arith)
+unfolding keptAs
+returns-6 c = line-by (c .before .before .before .before .before .args .table .now) (c .before .before .before .before .before .args .i) 99 (c .before .before .before .row-in .ensures) (c .before .match .keys6) (rw (c .before .before .place-in .ensures, c .compare-from .ensures))
 
 returns-7 : tie.Need-returns-7
-returns-7 c = other-line (c .before .before .before .before .before .pre) (c .before .before .before .row .ensures) (c .before .enum-told6 .given .1) (λ x h. let z : _≡_ {A = ℕ} 0 1 = cc in omega arith)
+unfolding keptAs
+returns-7 c = line-by (c .before .before .before .before .before .args .table .now) (c .before .before .before .before .before .args .i) 109 (c .before .before .before .row-in .ensures) (c .before .match .keys7) (rw (c .before .before .place-in .ensures, c .math-from .ensures))
+
+returns-8 : tie.Need-returns-8
+unfolding keptAs
+returns-8 c = line-by (c .before .before .before .before .before .args .table .now) (c .before .before .before .before .before .args .i) 117 (c .before .before .before .row-in .ensures) (c .before .match .keys8) (rw (c .before .before .place-in .ensures, c .unary-from .ensures))
+
+returns-9 : tie.Need-returns-9
+unfolding keptAs
+returns-9 c = line-by (c .before .before .before .before .before .args .table .now) (c .before .before .before .before .before .args .i) 104 (c .before .before .before .row-in .ensures) (c .before .match .keys9) (rw (c .before .before .place-in .ensures, c .crypto-from .ensures))
+
+returns-10 : tie.Need-returns-10
+unfolding keptAs
+returns-10 c = line-by (c .before .before .before .before .args .table .now) (c .before .before .before .before .args .i) 103 (c .before .before .row-in .ensures) (c .match .keys10) (rw (c .before .place-in .ensures))
+
+returns-11 : tie.Need-returns-11
+returns-11 c = line-of expressionLine (c .before .before .before .before .args .table .now) (c .before .before .before .before .args .i) (c .before .before .row-in .ensures) (c .before .before .before .before .pre) (rw (c .before .place-in .ensures) (expression-rest _ (c .match .rest))) refl
 
 pub expression-at-spec : {M : Type 1} → statement M
 expression-at-spec =
     tie.close
     (tie.spec
-    row-requires
-    enum-known-l
-    enum-told
-    unplaced-requires
-    enum-told-2
-    unplaced-requires-2
-    enum-told-3
-    unplaced-requires-3
-    enum-told-4
-    unplaced-requires-4
-    enum-told-5
-    unplaced-requires-5
-    enum-told-6
-    unplaced-requires-6
+    row-in-requires
+    place-in-requires
+    part-in-requires
+    signed-in-requires
+    part-in-requires-2
+    logical-from-requires
+    compare-from-requires
+    math-from-requires
+    unary-from-requires
+    crypto-from-requires
     returns
     returns-2
     returns-3
     returns-4
     returns-5
     returns-6
-    returns-7)
+    returns-7
+    returns-8
+    returns-9
+    returns-10
+    returns-11)

@@ -1,35 +1,37 @@
-use Prim.Native.Nat.{_-_, _≤_}
+use Prim.Native.Nat.{_+_, _-_, _≤_}
 use native.Mathlib.Omega.{arith}
-use mathlib.Core.Path.{_≡_, sym, _∙_}
+use mathlib.Core.Path.{_≡_, refl, _∙_}
 use borrow.Author.Needs.{needs}
-use borrow.Author.Tests.{not-true, not-false}
+use borrow.Author.Tests.{not-false}
 use lib.ListN.{length}
 use Rattle.text.specs.Text.{isHexDigit}
-use Rattle.text.proofs.Fields.{run-stop, run-past, End, end-step, end-here}
+use Rattle.text.proofs.Fields.{End, end-past, end-steps}
 use Rattle.text.proofs.hex_end.Statement.{statement}
 use Rattle.text.proofs.hex_end.Tie as tie
 
 abbrev Inv-loop : tie.InvT-loop
-Inv-loop listing at i₀ i = (at ≤ i) × (End isHexDigit listing (i - at) i ≡ End isHexDigit listing 0 at)
+Inv-loop listing at i₀ i = (i ≤ length listing) × (End isHexDigit listing i ≡ End isHexDigit listing at)
 
 abbrev μ-loop : tie.MeasureT-loop
 μ-loop listing at i₀ i = length listing - i
 
-loop-holds : tie.Need-loop-holds Inv-loop μ-loop
-loop-holds c = let z : c .before .args .at - c .before .args .at ≡ 0 = omega arith in (omega arith, rw z)
-
-shared-slice-read-is-hex-digit : tie.Need-shared-slice-read-is-hex-digit Inv-loop μ-loop
-shared-slice-read-is-hex-digit c = omega arith
-
-is-hex-digit-requires : tie.Need-is-hex-digit-requires Inv-loop μ-loop
-is-hex-digit-requires c κs = search needs
-
 returns : tie.Need-returns Inv-loop μ-loop
-returns c =
-    let s = c .before .before .before .before .before .before .args .listing .now in
-    let l = c .before .before .before .before .loop in
-    let out = sym (c .before .is-hex-digit .ensures) ∙ not-true _ (c .if1 .taken) in
-    end-here isHexDigit s _ (l .i) (run-stop isHexDigit _ s (l .i) (c .before .before .before .loop-test .taken) out) ∙ l .inv .1
+returns c = let a = c .before .before .args in end-past isHexDigit (a .listing .now) (a .at) (omega arith)
+
+loop-holds : tie.Need-loop-holds Inv-loop μ-loop
+loop-holds c = (omega arith, refl)
+
+sub-loop : tie.Need-sub-loop Inv-loop μ-loop
+sub-loop c = omega arith
+
+is-hex-run-requires : tie.Need-is-hex-run-requires Inv-loop μ-loop
+is-hex-run-requires c κs = omega arith
+
+hex-rest-requires : tie.Need-hex-rest-requires Inv-loop μ-loop
+hex-rest-requires c κs = search needs
+
+returns-2 : tie.Need-returns-2 Inv-loop μ-loop
+returns-2 c = c .hex-rest .ensures ∙ c .before .before .before .before .loop .inv .1
 
 add-i : tie.Need-add-i Inv-loop μ-loop
 add-i c = omega arith
@@ -39,16 +41,17 @@ loop-less c = omega arith
 
 loop-again : tie.Need-loop-again Inv-loop μ-loop
 loop-again c =
-    let a = c .before .before .before .before .before .before .args in
-    let l = c .before .before .before .before .loop in
-    let in-span = sym (c .before .is-hex-digit .ensures) ∙ not-false _ (c .if1 .left) in
-    (omega arith, end-step isHexDigit (a .listing .now) (a .at) (l .i) (l .inv .0) (c .before .before .before .loop-test .taken) in-span ∙ l .inv .1)
+    let s = c .before .before .before .before .before .before .args .listing .now in
+    let l = c .before .before .before .loop in
+    let inside : l .i + 16 ≤ length s = omega arith in
+    let digits = c .before .is-hex-run .ensures .0 (not-false _ (c .if2 .left)) in
+    (inside, end-steps isHexDigit s (l .i) 16 inside digits ∙ l .inv .1)
 
-returns-2 : tie.Need-returns-2 Inv-loop μ-loop
-returns-2 c =
-    let s = c .before .before .before .args .listing .now in
-    let l = c .before .loop in
-    end-here isHexDigit s _ (l .i) (run-past isHexDigit _ s (l .i) (c .loop-test .left)) ∙ l .inv .1
+hex-rest-requires-2 : tie.Need-hex-rest-requires-2 Inv-loop μ-loop
+hex-rest-requires-2 c κs = search needs
+
+returns-3 : tie.Need-returns-3 Inv-loop μ-loop
+returns-3 c = c .hex-rest2 .ensures ∙ c .before .before .loop .inv .1
 
 pub hex-end-spec : {M : Type 1} → statement M
 hex-end-spec =
@@ -56,11 +59,14 @@ hex-end-spec =
     (tie.spec
     Inv-loop
     μ-loop
-    loop-holds
-    shared-slice-read-is-hex-digit
-    is-hex-digit-requires
     returns
+    loop-holds
+    sub-loop
+    is-hex-run-requires
+    hex-rest-requires
+    returns-2
     add-i
     loop-less
     loop-again
-    returns-2)
+    hex-rest-requires-2
+    returns-3)

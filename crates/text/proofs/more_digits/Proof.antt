@@ -4,7 +4,8 @@ use mathlib.Core.Path.{_≡_, refl, sym, ap, _∙_}
 use borrow.Author.Needs.{needs}
 use borrow.Author.Tests.{not-true, not-false, leb-true, leb-false}
 use lib.ListN.{length, getD}
-use Rattle.text.proofs.Fields.{digit-low, digits-stop, digits-past, Digits, capped-step, capped-got, capped-over, push-fits, push-over}
+use Rattle.text.specs.declared.DecimalRead.{DecimalRead}
+use Rattle.text.proofs.Fields.{digit-range, digits-stop, digits-past, Digits, capped-step, capped-got, capped-over, push-fits, push-over}
 use Rattle.text.proofs.more_digits.Statement.{statement}
 use Rattle.text.proofs.more_digits.Tie as tie
 use Rattle.text.proofs.more_digits.Reads as reads
@@ -14,14 +15,14 @@ use Rattle.text.proofs.push_digit.Reads as push-digit-reads
 use Rattle.text.proofs.wide.Reads as wide-reads
 
 abbrev Inv-loop : tie.InvT-loop
-Inv-loop listing at first limit v₀ i₀ v i = (v ≤ limit) × (Digits listing limit v i ≡ Digits listing limit first at)
+Inv-loop listing at first limit v₀ i₀ v i = (v ≤ limit) × (Digits DecimalRead.Got DecimalRead.Failed listing limit v i ≡ Digits DecimalRead.Got DecimalRead.Failed listing limit first at)
 
 abbrev μ-loop : tie.MeasureT-loop
 μ-loop listing at first limit v₀ i₀ v i = length listing - i
 
 -- src/text.rt:109:9
 returns : tie.Need-returns Inv-loop μ-loop
-returns c = let a = c .before .before .args in capped-over (a .listing .now) (a .limit) (a .first) (a .at) (c .if1 .taken)
+returns c = let a = c .before .before .args in capped-over DecimalRead.Got DecimalRead.Failed (a .listing .now) (a .limit) (a .first) (a .at) (c .if1 .taken)
 
 -- src/text.rt:113:5
 loop-holds : tie.Need-loop-holds Inv-loop μ-loop
@@ -41,7 +42,7 @@ returns-2 c =
     let a = c .before .before .before .before .before .before .before .args in
     let l = c .before .before .before .before .loop in
     let out = sym (c .before .is-digit .ensures) ∙ not-true _ (c .if2 .taken) in
-    capped-got (a .listing .now) (a .limit) (l .v) (l .i) (l .inv .0) (digits-stop (l .v) (a .listing .now) (l .i) (c .before .before .before .loop-test .taken) out) ∙ l .inv .1
+    capped-got DecimalRead.Got DecimalRead.Failed (a .listing .now) (a .limit) (l .v) (l .i) (l .inv .0) (digits-stop (l .v) (a .listing .now) (l .i) (c .before .before .before .loop-test .taken) out) ∙ l .inv .1
 
 -- src/text.rt:118:48
 wide-requires : tie.Need-wide-requires Inv-loop μ-loop
@@ -49,7 +50,7 @@ wide-requires c κs = search needs
 
 -- src/text.rt:118:48
 sub-push-digit : tie.Need-sub-push-digit Inv-loop μ-loop
-sub-push-digit c = omega (arith, c .wide .ensures, digit-low _ (sym (c .before .before .is-digit .ensures) ∙ not-false _ (c .before .if2 .left)))
+sub-push-digit c = omega (arith, c .wide .ensures, digit-range _ (sym (c .before .before .is-digit .ensures) ∙ not-false _ (c .before .if2 .left)))
 
 -- src/text.rt:118:34
 push-digit-requires : tie.Need-push-digit-requires Inv-loop μ-loop
@@ -72,7 +73,7 @@ returns-3 c =
     let digit = sym (c .before .before .before .before .before .is-digit .ensures) ∙ not-false _ (c .before .before .before .before .if2 .left) in
     let d = ap (λ b. b - 48) (c .before .before .before .wide .ensures) in
     let over = push-over _ (a .limit) (sym (c .before .before .push-digit .ensures) ∙ c .enum-told .given .1) in
-    capped-over s (a .limit) (l .v * 10 + (getD s (l .i) 0 - 48)) (l .i + 1) (omega (arith, over, d)) ∙ capped-step s (a .limit) (l .v) (l .i) (c .before .before .before .before .before .before .before .loop-test .taken) digit ∙ l .inv .1
+    capped-over DecimalRead.Got DecimalRead.Failed s (a .limit) (l .v * 10 + (getD s (l .i) 0 - 48)) (l .i + 1) (omega (arith, over, d)) ∙ capped-step DecimalRead.Got DecimalRead.Failed s (a .limit) (l .v) (l .i) (c .before .before .before .before .before .before .before .loop-test .taken) digit ∙ l .inv .1
 
 -- src/text.rt:122:9
 add-i : tie.Need-add-i Inv-loop μ-loop
@@ -92,14 +93,14 @@ loop-again c =
     let d = ap (λ b. b - 48) (c .before .before .before .before .wide .ensures) in
     let fits = push-fits _ (a .limit) _ (sym (c .before .before .before .push-digit .ensures) ∙ c .before .next .given .1) in
     let same : c .before .next .given .0 .0 ≡ l .v * 10 + (getD s (l .i) 0 - 48) = omega (arith, fits, d) in
-    (omega (arith, fits), ap (λ v. Digits s (a .limit) v (l .i + 1)) same ∙ capped-step s (a .limit) (l .v) (l .i) (c .before .before .before .before .before .before .before .before .loop-test .taken) digit ∙ l .inv .1)
+    (omega (arith, fits), ap (λ v. Digits DecimalRead.Got DecimalRead.Failed s (a .limit) v (l .i + 1)) same ∙ capped-step DecimalRead.Got DecimalRead.Failed s (a .limit) (l .v) (l .i) (c .before .before .before .before .before .before .before .before .loop-test .taken) digit ∙ l .inv .1)
 
 -- src/text.rt:105:1
 returns-4 : tie.Need-returns-4 Inv-loop μ-loop
 returns-4 c =
     let a = c .before .before .before .before .args in
     let l = c .before .loop in
-    capped-got (a .listing .now) (a .limit) (l .v) (l .i) (l .inv .0) (digits-past (l .v) (a .listing .now) (l .i) (c .loop-test .left)) ∙ l .inv .1
+    capped-got DecimalRead.Got DecimalRead.Failed (a .listing .now) (a .limit) (l .v) (l .i) (l .inv .0) (digits-past (l .v) (a .listing .now) (l .i) (c .loop-test .left)) ∙ l .inv .1
 
 pub more-digits-spec : {M : Type 1} → statement M
 more-digits-spec =

@@ -1,22 +1,22 @@
-use Prim.Native.Nat.{_-_, _≤_}
+use Prim.Native.Nat.{_-_}
 use native.Mathlib.Omega.{arith}
-use mathlib.Core.Path.{_≡_, sym, _∙_}
+use mathlib.Core.Path.{_≡_, refl, sym, _∙_}
 use borrow.Author.Needs.{needs}
 use borrow.Author.Tests.{not-true, not-false}
 use lib.ListN.{length}
 use Rattle.text.specs.Text.{isNameByte}
-use Rattle.text.proofs.Fields.{run-stop, run-past, End, end-step, end-here}
+use Rattle.text.proofs.Fields.{End, end-step, end-stop, end-past}
 use Rattle.text.proofs.name_end.Statement.{statement}
 use Rattle.text.proofs.name_end.Tie as tie
 
 abbrev Inv-loop : tie.InvT-loop
-Inv-loop listing at i₀ i = (at ≤ i) × (End isNameByte listing (i - at) i ≡ End isNameByte listing 0 at)
+Inv-loop listing at i₀ i = End isNameByte listing i ≡ End isNameByte listing at
 
 abbrev μ-loop : tie.MeasureT-loop
 μ-loop listing at i₀ i = length listing - i
 
 loop-holds : tie.Need-loop-holds Inv-loop μ-loop
-loop-holds c = let z : c .before .args .at - c .before .args .at ≡ 0 = omega arith in (omega arith, rw z)
+loop-holds c = refl
 
 shared-slice-read-is-name-byte : tie.Need-shared-slice-read-is-name-byte Inv-loop μ-loop
 shared-slice-read-is-name-byte c = omega arith
@@ -29,7 +29,7 @@ returns c =
     let s = c .before .before .before .before .before .before .args .listing .now in
     let l = c .before .before .before .before .loop in
     let out = sym (c .before .is-name-byte .ensures) ∙ not-true _ (c .if1 .taken) in
-    end-here isNameByte s _ (l .i) (run-stop isNameByte _ s (l .i) (c .before .before .before .loop-test .taken) out) ∙ l .inv .1
+    end-stop isNameByte s (l .i) (c .before .before .before .loop-test .taken) out ∙ l .inv
 
 add-i : tie.Need-add-i Inv-loop μ-loop
 add-i c = omega arith
@@ -39,16 +39,16 @@ loop-less c = omega arith
 
 loop-again : tie.Need-loop-again Inv-loop μ-loop
 loop-again c =
-    let a = c .before .before .before .before .before .before .args in
+    let s = c .before .before .before .before .before .before .args .listing .now in
     let l = c .before .before .before .before .loop in
     let in-span = sym (c .before .is-name-byte .ensures) ∙ not-false _ (c .if1 .left) in
-    (omega arith, end-step isNameByte (a .listing .now) (a .at) (l .i) (l .inv .0) (c .before .before .before .loop-test .taken) in-span ∙ l .inv .1)
+    end-step isNameByte s (l .i) (c .before .before .before .loop-test .taken) in-span ∙ l .inv
 
 returns-2 : tie.Need-returns-2 Inv-loop μ-loop
 returns-2 c =
     let s = c .before .before .before .args .listing .now in
     let l = c .before .loop in
-    end-here isNameByte s _ (l .i) (run-past isNameByte _ s (l .i) (c .loop-test .left)) ∙ l .inv .1
+    end-past isNameByte s (l .i) (c .loop-test .left) ∙ l .inv
 
 pub name-end-spec : {M : Type 1} → statement M
 name-end-spec =

@@ -5,7 +5,7 @@ use borrow.Author.Needs.{needs}
 use lib.ListN.{drop}
 use Rattle.text.specs.Text.{digits, capped, upTo}
 use Rattle.text.specs.declared.DecimalRead.{DecimalRead}
-use Rattle.text.proofs.Fields.{digit-low, decimal-past, decimal-zero, decimal-digit, decimal-other}
+use Rattle.text.proofs.Fields.{digit-range, decimal-past, decimal-zero, decimal-digit, decimal-other}
 use Rattle.text.proofs.Told.{answer-got, answer-failed, answer-same}
 use Rattle.text.proofs.read_decimal.Statement.{statement}
 use Rattle.text.proofs.read_decimal.Tie as tie
@@ -36,7 +36,7 @@ wide-requires : tie.Need-wide-requires
 wide-requires c κs = search needs
 
 sub-more-digits : tie.Need-sub-more-digits
-sub-more-digits c = omega (arith, c .wide .ensures, digit-low _ (sym (c .before .before .is-digit .ensures) ∙ c .before .if3 .taken))
+sub-more-digits c = omega (arith, c .wide .ensures, digit-range _ (sym (c .before .before .is-digit .ensures) ∙ c .before .if3 .taken))
 
 more-digits-requires : tie.Need-more-digits-requires
 more-digits-requires c κs = search needs

@@ -1,12 +1,12 @@
+use Prim.Native.Nat.{_+_, _-_}
 use native.Mathlib.Omega.{arith}
-use mathlib.Core.Path.{_∙_}
+use mathlib.Core.Path.{_≡_, sym, ap, _∙_}
 use borrow.Author.Needs.{needs}
-use Rattle.text.specs.Text.{comma, upTo, word}
-use Rattle.text.specs.declared.DecimalRead.{DecimalRead}
+use lib.ListN.{drop}
+use Rattle.text.specs.Text.{comma, digits, capped, upTo, word}
 use Rattle.text.specs.declared.WordRead.{WordRead}
-use Rattle.text.proofs.Fields.{upTo-within}
-use Rattle.text.proofs.Places.{upTo-keeps}
-use Rattle.text.proofs.Told.{answer-got, answer-failed, told-got, told-failed, skip-to, skip-failed, decimal-tells}
+use Rattle.text.proofs.Fields.{digit-range, decimal-past, decimal-zero, decimal-digit, decimal-other}
+use Rattle.text.proofs.Told.{answer-got, answer-failed, answer-same, skip-to, skip-failed}
 use Rattle.text.proofs.read_word.Statement.{statement}
 use Rattle.text.proofs.read_word.Tie as tie
 
@@ -25,36 +25,58 @@ returns c =
     let a = c .before .before .before .before .args in
     answer-failed WordRead.Got WordRead.Failed word (a .listing .now) (a .at) (skip-failed comma (upTo 4294967295) (a .listing .now) (a .at) (c .before .before .skip .ensures) (c .enum-told .given .1))
 
-read-decimal-requires : tie.Need-read-decimal-requires
-read-decimal-requires c κs = search needs
-
-enum-known-v : tie.Need-enum-known-v
-enum-known-v c = search needs
-
-enum-told-2 : tie.Need-enum-told-2
-enum-told-2 c = search needs
+-- after the comma: the number
+start : (c : tie.After-known-told) → let a = c .before .before .before .before .before .args in let n = c .before .n .given .0 .0 in word (a .at) (drop (a .at) (a .listing .now)) ≡ upTo 4294967295 n (drop n (a .listing .now))
+unfolding word
+start c = let a = c .before .before .before .before .before .args in skip-to comma (upTo 4294967295) (a .listing .now) (a .at) (c .before .before .before .skip .ensures) (c .before .n .given .1)
 
 returns-2 : tie.Need-returns-2
-unfolding word
 returns-2 c =
-    let a = c .before .before .before .before .before .before .before .before .args in
-    let s = a .listing .now in
-    let start = skip-to comma (upTo 4294967295) s (a .at) (c .before .before .before .before .before .before .skip .ensures) (c .before .before .before .before .n .given .1) in
-    answer-failed WordRead.Got WordRead.Failed word s (a .at) (start ∙ told-failed DecimalRead.Got DecimalRead.Failed decimal-tells (upTo 4294967295) s _ (c .before .before .read-decimal .ensures) (c .enum-told2 .given .1))
+    let a = c .before .before .before .before .before .before .args in
+    let n = c .before .before .n .given .0 .0 in
+    answer-failed WordRead.Got WordRead.Failed word (a .listing .now) (a .at) (start (c .before) ∙ decimal-past 4294967295 (a .listing .now) n (c .if1 .taken))
 
-cast-t8 : tie.Need-cast-t8
-cast-t8 c =
-    let s = c .before .before .before .before .before .before .before .before .before .args .listing .now in
-    let v = told-got DecimalRead.Got DecimalRead.Failed decimal-tells (upTo 4294967295) (upTo-keeps 4294967295) s _ (c .before .before .before .read-decimal .ensures) (c .before .v .given .1) in
-    record { fits = omega (arith, upTo-within 4294967295 _ _ v) }
+shared-slice-read-first : tie.Need-shared-slice-read-first
+shared-slice-read-first c = search needs
+
+add-t10 : tie.Need-add-t10
+add-t10 c = search needs
 
 returns-3 : tie.Need-returns-3
-unfolding word
 returns-3 c =
-    let a = c .before .before .before .before .before .before .before .before .before .args in
+    let a = c .before .before .before .before .before .before .before .before .args in
+    let n = c .before .before .before .before .n .given .0 .0 in
+    answer-got WordRead.Got WordRead.Failed word (a .listing .now) (a .at) (start (c .before .before .before) ∙ decimal-zero 4294967295 (a .listing .now) n (c .before .before .if1 .left) (c .if2 .taken))
+
+is-digit-requires : tie.Need-is-digit-requires
+is-digit-requires c κs = search needs
+
+add-word-digits : tie.Need-add-word-digits
+add-word-digits c = search needs
+
+wide-requires : tie.Need-wide-requires
+wide-requires c κs = search needs
+
+sub-word-digits : tie.Need-sub-word-digits
+sub-word-digits c = omega (arith, c .wide .ensures, digit-range _ (sym (c .before .before .is-digit .ensures) ∙ c .before .if3 .taken))
+
+word-digits-requires : tie.Need-word-digits-requires
+word-digits-requires c κs = omega (arith, c .wide .ensures, digit-range _ (sym (c .before .before .is-digit .ensures) ∙ c .before .if3 .taken))
+
+returns-4 : tie.Need-returns-4
+returns-4 c =
+    let a = c .before .before .before .before .before .before .before .before .before .before .before .before .args in
     let s = a .listing .now in
-    let start = skip-to comma (upTo 4294967295) s (a .at) (c .before .before .before .before .before .before .before .skip .ensures) (c .before .before .before .before .before .n .given .1) in
-    answer-got WordRead.Got WordRead.Failed word s (a .at) (start ∙ told-got DecimalRead.Got DecimalRead.Failed decimal-tells (upTo 4294967295) (upTo-keeps 4294967295) s _ (c .before .before .before .read-decimal .ensures) (c .before .v .given .1))
+    let n = c .before .before .before .before .before .before .before .before .n .given .0 .0 in
+    let digit = sym (c .before .before .before .is-digit .ensures) ∙ c .before .before .if3 .taken in
+    let same = ap (λ b. capped 4294967295 (digits (b - 48)) (n + 1) (drop (n + 1) s)) (c .before .wide .ensures) in
+    answer-same WordRead.Got WordRead.Failed word (capped 4294967295 (digits (c .before .wide .result - 48))) s (a .at) (n + 1) (c .word-digits .ensures) (start (c .before .before .before .before .before .before .before) ∙ decimal-digit 4294967295 s n (c .before .before .before .before .before .before .if1 .left) (c .before .before .before .before .if2 .left) digit ∙ sym same)
+
+returns-5 : tie.Need-returns-5
+returns-5 c =
+    let a = c .before .before .before .before .before .before .before .before .before .before .args in
+    let n = c .before .before .before .before .before .before .n .given .0 .0 in
+    answer-failed WordRead.Got WordRead.Failed word (a .listing .now) (a .at) (start (c .before .before .before .before .before) ∙ decimal-other 4294967295 (a .listing .now) n (c .before .before .before .before .if1 .left) (c .before .before .if2 .left) (sym (c .before .is-digit .ensures) ∙ c .if3 .left))
 
 pub read-word-spec : {M : Type 1} → statement M
 read-word-spec =
@@ -64,9 +86,14 @@ read-word-spec =
     enum-known-n
     enum-told
     returns
-    read-decimal-requires
-    enum-known-v
-    enum-told-2
     returns-2
-    cast-t8
-    returns-3)
+    shared-slice-read-first
+    add-t10
+    returns-3
+    is-digit-requires
+    add-word-digits
+    wide-requires
+    sub-word-digits
+    word-digits-requires
+    returns-4
+    returns-5)

@@ -46,8 +46,8 @@ refuse-requires-2 c κs = search needs
 returns-2 : tie.Need-returns-2 Inv-loop μ-loop
 returns-2 c = walk-fault (c .refuse2 .ensures) (no-fellow (c .before .before .before .before .before .before .before .before .before .before .pre .0) (c .before .before .before .before .before .before .before .before .before .before .pre .1) _ (omega (arith, c .before .before .before .before .loop .inv .1, c .before .before .before .loop-test .taken)) (sym (c .before .before .same-item .ensures) ∙ not-true _ (c .before .if2 .taken)))
 
-cast-p : tie.Need-cast-p Inv-loop μ-loop
-cast-p c = omega arith
+cast-at : tie.Need-cast-at Inv-loop μ-loop
+cast-at c = omega arith
 
 mul-p : tie.Need-mul-p Inv-loop μ-loop
 mul-p c = omega (arith, below (c .before .before))
@@ -55,8 +55,20 @@ mul-p c = omega (arith, below (c .before .before))
 element-copy-out-p : tie.Need-element-copy-out-p Inv-loop μ-loop
 element-copy-out-p c = below (c .before .before)
 
-mark-requires : tie.Need-mark-requires Inv-loop μ-loop
-mark-requires c κs = below (c .before .before .before)
+mul-q : tie.Need-mul-q Inv-loop μ-loop
+mul-q c = omega (arith, below (c .before .before .before))
+
+element-copy-out-q : tie.Need-element-copy-out-q Inv-loop μ-loop
+element-copy-out-q c = below (c .before .before .before)
+
+mul-t21 : tie.Need-mul-t21 Inv-loop μ-loop
+mul-t21 c = omega (arith, below (c .before .before .before .before))
+
+element-set-from-out : tie.Need-element-set-from-out Inv-loop μ-loop
+element-set-from-out c = below (c .before .before .before .before)
+
+with-bit-requires : tie.Need-with-bit-requires Inv-loop μ-loop
+with-bit-requires c κs = below (c .before .before .before .before)
 
 add-k : tie.Need-add-k Inv-loop μ-loop
 add-k c = omega arith
@@ -66,9 +78,9 @@ loop-less c = omega arith
 
 loop-again : tie.Need-loop-again Inv-loop μ-loop
 loop-again c =
-    let b = c .before .before .before .before .before .before .before .before .before .before .before in
-    let l = c .before .before .before .before .before .loop in
-    (omega arith, l .inv .1, rw (c .mark .ensures) (hand-more (b .pre .0) (b .pre .1) (l .inv .2) (omega (arith, l .inv .1, c .before .before .before .before .loop-test .taken)) (sym (c .before .before .before .same-item .ensures) ∙ not-false _ (c .before .before .if2 .left))))
+    let b = c .before .before .before .before .before .before .before .before .before .before .before .before in
+    let l = c .before .before .before .before .before .before .loop in
+    (omega arith, l .inv .1, rw (c .with-bit .ensures) (hand-more (b .pre .0) (b .pre .1) (l .inv .2) (omega (arith, l .inv .1, c .before .before .before .before .before .loop-test .taken)) (sym (c .before .before .before .before .same-item .ensures) ∙ not-false _ (c .before .before .before .if2 .left))))
 
 pass-requires : tie.Need-pass-requires Inv-loop μ-loop
 pass-requires c κs = search needs
@@ -93,10 +105,14 @@ transfer-prefix-consumption-spec =
     same-item-requires
     refuse-requires-2
     returns-2
-    cast-p
+    cast-at
     mul-p
     element-copy-out-p
-    mark-requires
+    mul-q
+    element-copy-out-q
+    mul-t21
+    element-set-from-out
+    with-bit-requires
     add-k
     loop-less
     loop-again

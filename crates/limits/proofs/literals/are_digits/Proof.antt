@@ -1,12 +1,11 @@
-use Prim.Native.Nat.{_+_, _-_, _≤_}
+use Prim.Native.Nat.{_+_, _≤_}
 use native.Mathlib.Omega.{arith}
-use mathlib.Core.Path.{_≡_, refl, sym, _∙_}
-use borrow.Author.Needs.{needs}
-use borrow.Author.Tests.{not-true, not-false}
+use mathlib.Core.Path.{_≡_, refl, _∙_}
+use borrow.Author.Tests.{not-false}
 use lib.ListN.{length, take, drop}
 use Rattle.text.specs.Text.{unhex}
 use Rattle.rules.specs.Keys.{allDigits}
-use Rattle.limits.proofs.Digits.{digits-more, digits-none, digits-end}
+use Rattle.limits.proofs.Digits.{digits-many, digit-at}
 use Rattle.limits.proofs.literals.are_digits.Statement.{statement}
 use Rattle.limits.proofs.literals.are_digits.Tie as tie
 
@@ -19,44 +18,33 @@ abbrev μ-loop : tie.MeasureT-loop
 loop-holds : tie.Need-loop-holds Inv-loop μ-loop
 loop-holds c = (omega arith, refl)
 
-shared-slice-read-byte-of : tie.Need-shared-slice-read-byte-of Inv-loop μ-loop
-shared-slice-read-byte-of c = omega arith
+is-digit-run-requires : tie.Need-is-digit-run-requires Inv-loop μ-loop
+is-digit-run-requires c κs = omega arith
 
-add-byte-of : tie.Need-add-byte-of Inv-loop μ-loop
-add-byte-of c = omega arith
-
-shared-slice-read-byte-of-2 : tie.Need-shared-slice-read-byte-of-2 Inv-loop μ-loop
-shared-slice-read-byte-of-2 c = omega arith
-
-byte-of-requires : tie.Need-byte-of-requires Inv-loop μ-loop
-byte-of-requires c κs = search needs
-
-is-digit-requires : tie.Need-is-digit-requires Inv-loop μ-loop
-is-digit-requires c κs = search needs
+digits-rest-requires : tie.Need-digits-rest-requires Inv-loop μ-loop
+digits-rest-requires c κs = omega arith
 
 returns : tie.Need-returns Inv-loop μ-loop
-returns c =
-    let l = c .before .before .before .before .before .before .loop in
-    let s = c .before .before .before .before .before .before .before .before .args .listing .now in
-    digits-none s (l .i) (l .left) (l .inv .0) (c .before .before .before .before .before .loop-test .taken) (c .before .before .byte-of .ensures) (sym (c .before .is-digit .ensures) ∙ not-true _ (c .if1 .taken)) ∙ l .inv .1
+returns c = c .digits-rest .ensures ∙ c .before .before .before .before .loop .inv .1
 
 add-i : tie.Need-add-i Inv-loop μ-loop
 add-i c = omega arith
-
-sub-left : tie.Need-sub-left Inv-loop μ-loop
-sub-left c = omega arith
 
 loop-less : tie.Need-loop-less Inv-loop μ-loop
 loop-less c = omega arith
 
 loop-again : tie.Need-loop-again Inv-loop μ-loop
 loop-again c =
-    let l = c .before .before .before .before .before .before .loop in
-    let s = c .before .before .before .before .before .before .before .before .args .listing .now in
-    (omega arith, digits-more s (l .i) (l .left) (l .inv .0) (c .before .before .before .before .before .loop-test .taken) (c .before .before .byte-of .ensures) (sym (c .before .is-digit .ensures) ∙ not-false _ (c .if1 .left)) ∙ l .inv .1)
+    let s = c .before .before .before .before .before .args .listing .now in
+    let l = c .before .before .before .loop in
+    let all = c .before .is-digit-run .ensures .0 (not-false _ (c .if1 .left)) .1 in
+    (omega arith, digits-many s (l .i) (l .left) (l .inv .0) 16 (omega arith) (λ j h. digit-at s (l .i) 32 j (omega arith) (omega arith) all) ∙ l .inv .1)
+
+digits-rest-requires-2 : tie.Need-digits-rest-requires-2 Inv-loop μ-loop
+digits-rest-requires-2 c κs = omega arith
 
 returns-2 : tie.Need-returns-2 Inv-loop μ-loop
-returns-2 c = let l = c .before .loop in digits-end (c .before .before .before .args .listing .now) (l .i) (l .left) (l .inv .0) (omega (arith, c .loop-test .left)) ∙ l .inv .1
+returns-2 c = c .digits-rest2 .ensures ∙ c .before .before .loop .inv .1
 
 pub are-digits-spec : {M : Type 1} → statement M
 are-digits-spec =
@@ -65,14 +53,11 @@ are-digits-spec =
     Inv-loop
     μ-loop
     loop-holds
-    shared-slice-read-byte-of
-    add-byte-of
-    shared-slice-read-byte-of-2
-    byte-of-requires
-    is-digit-requires
+    is-digit-run-requires
+    digits-rest-requires
     returns
     add-i
-    sub-left
     loop-less
     loop-again
+    digits-rest-requires-2
     returns-2)

@@ -16,13 +16,9 @@ returns-2 : tie.Need-returns-2
 unfolding fitsHere
 returns-2 c = rw (sym (c .before .before .has-room .ensures) ∙ not-false _ (c .before .if1 .left), le-ltb _ _ (c .if2 .taken), fitsHere)
 
-within-ceilings-requires : tie.Need-within-ceilings-requires
-within-ceilings-requires c κs = search needs
-
 returns-3 : tie.Need-returns-3
 unfolding fitsHere
-returns-3 c = rw (sym (c .before .before .before .has-room .ensures) ∙ not-false _ (c .before .before .if1 .left), lt-ltb _ _ (c .before .if2 .left), fitsHere, c .within-ceilings .ensures)
+returns-3 c = rw (sym (c .before .before .has-room .ensures) ∙ not-false _ (c .before .if1 .left), lt-ltb _ _ (c .if2 .left), fitsHere)
 
 pub fits-here-spec : {M : Type 1} → statement M
-fits-here-spec =
-    tie.close (tie.spec has-room-requires returns returns-2 within-ceilings-requires returns-3)
+fits-here-spec = tie.close (tie.spec has-room-requires returns returns-2 returns-3)

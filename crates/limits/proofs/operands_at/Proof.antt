@@ -1,0 +1,24 @@
+use mathlib.Core.Path.{refl}
+use borrow.Author.Needs.{needs}
+use Rattle.rows.specs.Rows.{keptAs}
+use Rattle.limits.proofs.Letters.{operands-by, operands-rest}
+use Rattle.limits.proofs.operands_at.Statement.{statement}
+use Rattle.limits.proofs.operands_at.Tie as tie
+
+row-in-requires : tie.Need-row-in-requires
+row-in-requires c κs = search needs
+
+pub operands-at-spec : {M : Type 1} → statement M
+unfolding keptAs
+operands-at-spec =
+    tie.close
+    (tie.spec
+    row-in-requires
+    (λ c. operands-by _ _ 108 (c .before .row-in .ensures) (c .match .keys1) refl)
+    (λ c. operands-by _ _ 99 (c .before .row-in .ensures) (c .match .keys2) refl)
+    (λ c. operands-by _ _ 109 (c .before .row-in .ensures) (c .match .keys3) refl)
+    (λ c. operands-by _ _ 117 (c .before .row-in .ensures) (c .match .keys4) refl)
+    (λ c. operands-by _ _ 104 (c .before .row-in .ensures) (c .match .keys5) refl)
+    (λ c. operands-by _ _ 122 (c .before .row-in .ensures) (c .match .keys6) refl)
+    (λ c. operands-by _ _ 103 (c .before .row-in .ensures) (c .match .keys7) refl)
+    (λ c. operands-rest _ _ (c .before .row-in .ensures) (c .match .rest)))

@@ -1,0 +1,66 @@
+use Prim.Native.Nat.{_-_}
+use native.Mathlib.Omega.{arith}
+use mathlib.Core.Path.{_≡_, refl, sym, _∙_}
+use borrow.Author.Needs.{needs}
+use borrow.Author.Tests.{not-true, not-false}
+use lib.ListN.{length}
+use Rattle.text.specs.Text.{isHexDigit}
+use Rattle.text.proofs.Fields.{End, end-step, end-stop, end-past}
+use Rattle.text.proofs.hex_rest.Statement.{statement}
+use Rattle.text.proofs.hex_rest.Tie as tie
+
+abbrev Inv-loop : tie.InvT-loop
+Inv-loop listing at i₀ i = End isHexDigit listing i ≡ End isHexDigit listing at
+
+abbrev μ-loop : tie.MeasureT-loop
+μ-loop listing at i₀ i = length listing - i
+
+loop-holds : tie.Need-loop-holds Inv-loop μ-loop
+loop-holds c = refl
+
+shared-slice-read-is-hex-digit : tie.Need-shared-slice-read-is-hex-digit Inv-loop μ-loop
+shared-slice-read-is-hex-digit c = omega arith
+
+is-hex-digit-requires : tie.Need-is-hex-digit-requires Inv-loop μ-loop
+is-hex-digit-requires c κs = search needs
+
+returns : tie.Need-returns Inv-loop μ-loop
+returns c =
+    let s = c .before .before .before .before .before .before .args .listing .now in
+    let l = c .before .before .before .before .loop in
+    let out = sym (c .before .is-hex-digit .ensures) ∙ not-true _ (c .if1 .taken) in
+    end-stop isHexDigit s (l .i) (c .before .before .before .loop-test .taken) out ∙ l .inv
+
+add-i : tie.Need-add-i Inv-loop μ-loop
+add-i c = omega arith
+
+loop-less : tie.Need-loop-less Inv-loop μ-loop
+loop-less c = omega arith
+
+loop-again : tie.Need-loop-again Inv-loop μ-loop
+loop-again c =
+    let s = c .before .before .before .before .before .before .args .listing .now in
+    let l = c .before .before .before .before .loop in
+    let in-span = sym (c .before .is-hex-digit .ensures) ∙ not-false _ (c .if1 .left) in
+    end-step isHexDigit s (l .i) (c .before .before .before .loop-test .taken) in-span ∙ l .inv
+
+returns-2 : tie.Need-returns-2 Inv-loop μ-loop
+returns-2 c =
+    let s = c .before .before .before .args .listing .now in
+    let l = c .before .loop in
+    end-past isHexDigit s (l .i) (c .loop-test .left) ∙ l .inv
+
+pub hex-rest-spec : {M : Type 1} → statement M
+hex-rest-spec =
+    tie.close
+    (tie.spec
+    Inv-loop
+    μ-loop
+    loop-holds
+    shared-slice-read-is-hex-digit
+    is-hex-digit-requires
+    returns
+    add-i
+    loop-less
+    loop-again
+    returns-2)

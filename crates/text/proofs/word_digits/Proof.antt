@@ -1,0 +1,100 @@
+use Prim.Native.Nat.{_-_, _≤_, _+_, _*_}
+use native.Mathlib.Omega.{arith}
+use mathlib.Core.Path.{_≡_, refl, sym, ap, _∙_}
+use borrow.Author.Needs.{needs}
+use borrow.Author.Tests.{not-true, not-false}
+use lib.ListN.{length, getD}
+use Rattle.text.specs.declared.WordRead.{WordRead}
+use Rattle.text.proofs.Fields.{digit-range, digits-stop, digits-past, Digits, capped-step, capped-got, capped-over}
+use Rattle.text.proofs.word_digits.Statement.{statement}
+use Rattle.text.proofs.word_digits.Tie as tie
+
+abbrev Inv-loop : tie.InvT-loop
+Inv-loop listing at first v₀ i₀ v i = (v ≤ 4294967295) × (Digits WordRead.Got WordRead.Failed listing 4294967295 v i ≡ Digits WordRead.Got WordRead.Failed listing 4294967295 first at)
+
+abbrev μ-loop : tie.MeasureT-loop
+μ-loop listing at first v₀ i₀ v i = length listing - i
+
+loop-holds : tie.Need-loop-holds Inv-loop μ-loop
+loop-holds c = (omega arith, refl)
+
+shared-slice-read-b : tie.Need-shared-slice-read-b Inv-loop μ-loop
+shared-slice-read-b c = omega arith
+
+is-digit-requires : tie.Need-is-digit-requires Inv-loop μ-loop
+is-digit-requires c κs = search needs
+
+cast-t12 : tie.Need-cast-t12 Inv-loop μ-loop
+cast-t12 c = omega arith
+
+returns : tie.Need-returns Inv-loop μ-loop
+returns c =
+    let s = c .before .before .before .before .before .before .args .listing .now in
+    let l = c .before .before .before .before .loop in
+    let out = sym (c .before .is-digit .ensures) ∙ not-true _ (c .if1 .taken) in
+    capped-got WordRead.Got WordRead.Failed s 4294967295 (l .v) (l .i) (l .inv .0) (digits-stop (l .v) s (l .i) (c .before .before .before .loop-test .taken) out) ∙ l .inv .1
+
+mul-v : tie.Need-mul-v Inv-loop μ-loop
+mul-v c = omega arith
+
+wide-requires : tie.Need-wide-requires Inv-loop μ-loop
+wide-requires c κs = search needs
+
+sub-v : tie.Need-sub-v Inv-loop μ-loop
+sub-v c = omega (arith, c .wide .ensures, digit-range _ (sym (c .before .before .is-digit .ensures) ∙ not-false _ (c .before .if1 .left)))
+
+add-v : tie.Need-add-v Inv-loop μ-loop
+add-v c = omega (arith, c .wide .ensures, digit-range _ (sym (c .before .before .is-digit .ensures) ∙ not-false _ (c .before .if1 .left)))
+
+returns-2 : tie.Need-returns-2 Inv-loop μ-loop
+returns-2 c =
+    let s = c .before .before .before .before .before .before .before .before .args .listing .now in
+    let l = c .before .before .before .before .before .before .loop in
+    let digit = sym (c .before .before .before .is-digit .ensures) ∙ not-false _ (c .before .before .if1 .left) in
+    let d = ap (λ b. l .v * 10 + (b - 48)) (c .before .wide .ensures) in
+    capped-over WordRead.Got WordRead.Failed s 4294967295 (l .v * 10 + (getD s (l .i) 0 - 48)) (l .i + 1) (omega (arith, d)) ∙ capped-step WordRead.Got WordRead.Failed s 4294967295 (l .v) (l .i) (c .before .before .before .before .before .loop-test .taken) digit ∙ l .inv .1
+
+add-i : tie.Need-add-i Inv-loop μ-loop
+add-i c = omega arith
+
+loop-less : tie.Need-loop-less Inv-loop μ-loop
+loop-less c = omega arith
+
+loop-again : tie.Need-loop-again Inv-loop μ-loop
+loop-again c =
+    let s = c .before .before .before .before .before .before .before .before .args .listing .now in
+    let l = c .before .before .before .before .before .before .loop in
+    let digit = sym (c .before .before .before .is-digit .ensures) ∙ not-false _ (c .before .before .if1 .left) in
+    let d = ap (λ b. l .v * 10 + (b - 48)) (c .before .wide .ensures) in
+    (c .if2 .left, ap (λ v. Digits WordRead.Got WordRead.Failed s 4294967295 v (l .i + 1)) d ∙ capped-step WordRead.Got WordRead.Failed s 4294967295 (l .v) (l .i) (c .before .before .before .before .before .loop-test .taken) digit ∙ l .inv .1)
+
+cast-t16 : tie.Need-cast-t16 Inv-loop μ-loop
+cast-t16 c = omega arith
+
+returns-3 : tie.Need-returns-3 Inv-loop μ-loop
+returns-3 c =
+    let s = c .before .before .before .args .listing .now in
+    let l = c .before .loop in
+    capped-got WordRead.Got WordRead.Failed s 4294967295 (l .v) (l .i) (l .inv .0) (digits-past (l .v) s (l .i) (c .loop-test .left)) ∙ l .inv .1
+
+pub word-digits-spec : {M : Type 1} → statement M
+word-digits-spec =
+    tie.close
+    (tie.spec
+    Inv-loop
+    μ-loop
+    loop-holds
+    shared-slice-read-b
+    is-digit-requires
+    cast-t12
+    returns
+    mul-v
+    wide-requires
+    sub-v
+    add-v
+    returns-2
+    add-i
+    loop-less
+    loop-again
+    cast-t16
+    returns-3)

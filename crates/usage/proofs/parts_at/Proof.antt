@@ -1,0 +1,141 @@
+use native.Mathlib.Omega.{arith}
+use mathlib.Core.Path.{_∙_}
+use borrow.Author.Needs.{needs}
+use Rattle.rows.specs.Rows.{lineIn}
+use Rattle.reader.specs.Spells.{SpellsFactor}
+use Rattle.nodes.proofs.Laws.{expression-holds, below}
+use Rattle.usage.proofs.Trees.{parts-are, signed-parts}
+use Rattle.usage.proofs.parts_at.Statement.{statement}
+use Rattle.usage.proofs.parts_at.Tie as tie
+
+expression-at-requires : tie.Need-expression-at-requires
+expression-at-requires c κs = expression-holds (c .before .pre .1)
+
+add-first : tie.Need-add-first
+add-first c = omega (arith, expression-holds (c .before .before .pre .1) .room)
+
+enum-known-line : tie.Need-enum-known-line
+enum-known-line c = search needs
+
+enum-told : tie.Need-enum-told
+enum-told c = search needs
+
+enum-told-2 : tie.Need-enum-told-2
+enum-told-2 c = search needs
+
+enum-told-3 : tie.Need-enum-told-3
+enum-told-3 c = search needs
+
+enum-told-4 : tie.Need-enum-told-4
+enum-told-4 c = search needs
+
+enum-told-5 : tie.Need-enum-told-5
+enum-told-5 c = search needs
+
+enum-told-6 : tie.Need-enum-told-6
+enum-told-6 c = search needs
+
+enum-told-7 : tie.Need-enum-told-7
+enum-told-7 c = search needs
+
+enum-told-8 : tie.Need-enum-told-8
+enum-told-8 c = search needs
+
+enum-told-9 : tie.Need-enum-told-9
+enum-told-9 c = search needs
+
+enum-told-10 : tie.Need-enum-told-10
+enum-told-10 c = search needs
+
+signatures-at-requires : tie.Need-signatures-at-requires
+signatures-at-requires c κs =
+    let b = c .before .before .before .before in
+    let st = b .pre .1 in
+    let p = parts-are (lineIn (b .args .table .now)) (b .pre .0) (st .spells) (c .before .before .expression-at .ensures) (c .enum-told10 .given .1) in
+    (b .pre .0, below (SpellsFactor (lineIn (b .args .table .now)) (b .pre .0)) st (p .1) (omega arith))
+
+returns : tie.Need-returns
+returns c s e j sp =
+    let b = c .before .before .before .before .before in
+    parts-are (lineIn (b .args .table .now)) s sp (c .before .before .before .expression-at .ensures) (c .before .line .given .1)
+
+returns-2 : tie.Need-returns-2
+returns-2 c s e j sp =
+    let b = c .before .before .before .before in
+    parts-are (lineIn (b .args .table .now)) s sp (c .before .before .expression-at .ensures) (c .enum-told .given .1)
+
+returns-3 : tie.Need-returns-3
+returns-3 c s e j sp =
+    let b = c .before .before .before .before in
+    parts-are (lineIn (b .args .table .now)) s sp (c .before .before .expression-at .ensures) (c .enum-told2 .given .1)
+
+returns-4 : tie.Need-returns-4
+returns-4 c s e j sp =
+    let b = c .before .before .before .before in
+    parts-are (lineIn (b .args .table .now)) s sp (c .before .before .expression-at .ensures) (c .enum-told3 .given .1)
+
+returns-5 : tie.Need-returns-5
+returns-5 c s e j sp =
+    let b = c .before .before .before .before in
+    parts-are (lineIn (b .args .table .now)) s sp (c .before .before .expression-at .ensures) (c .enum-told4 .given .1)
+
+returns-6 : tie.Need-returns-6
+returns-6 c s e j sp =
+    let b = c .before .before .before .before in
+    parts-are (lineIn (b .args .table .now)) s sp (c .before .before .expression-at .ensures) (c .enum-told5 .given .1)
+
+returns-7 : tie.Need-returns-7
+returns-7 c s e j sp =
+    let b = c .before .before .before .before in
+    parts-are (lineIn (b .args .table .now)) s sp (c .before .before .expression-at .ensures) (c .enum-told6 .given .1)
+
+returns-8 : tie.Need-returns-8
+returns-8 c s e j sp =
+    let b = c .before .before .before .before in
+    parts-are (lineIn (b .args .table .now)) s sp (c .before .before .expression-at .ensures) (c .enum-told7 .given .1)
+
+returns-9 : tie.Need-returns-9
+returns-9 c s e j sp =
+    let b = c .before .before .before .before in
+    parts-are (lineIn (b .args .table .now)) s sp (c .before .before .expression-at .ensures) (c .enum-told8 .given .1)
+
+returns-10 : tie.Need-returns-10
+returns-10 c s e j sp =
+    let b = c .before .before .before .before in
+    parts-are (lineIn (b .args .table .now)) s sp (c .before .before .expression-at .ensures) (c .enum-told9 .given .1)
+
+returns-11 : tie.Need-returns-11
+returns-11 c s e j sp =
+    let b = c .before .before .before .before .before in
+    let p = parts-are (lineIn (b .args .table .now)) s sp (c .before .before .before .expression-at .ensures) (c .before .enum-told10 .given .1) in
+    signed-parts (lineIn (b .args .table .now)) s (b .args .i) j e (p .0) (p .2) (c .signatures-at .result) (c .signatures-at .ensures s (p .0) j (p .1))
+
+pub parts-at-spec : {M : Type 1} → statement M
+parts-at-spec =
+    tie.close
+    (tie.spec
+    expression-at-requires
+    add-first
+    enum-known-line
+    enum-told
+    enum-told-2
+    enum-told-3
+    enum-told-4
+    enum-told-5
+    enum-told-6
+    enum-told-7
+    enum-told-8
+    enum-told-9
+    enum-told-10
+    signatures-at-requires
+    returns
+    returns-2
+    returns-3
+    returns-4
+    returns-5
+    returns-6
+    returns-7
+    returns-8
+    returns-9
+    returns-10
+    returns-11)
