@@ -1,8 +1,8 @@
 -- The whole analysis, from what its parts answer.
-use Prim.Native.Nat.{ℕ}
+use Prim.Native.Nat.{ℕ, _<_}
 use native.Mathlib.Omega.{arith}
 use mathlib.Core.List.{List}
-use mathlib.Core.Path.{_≡_, refl, sym, ap, _∙_}
+use mathlib.Core.Path.{_≡_, refl, sym, ap, _∙_, subst}
 use borrow.Author.Tests.{eq-eqb, ne-eqb}
 use lib.ListN.{getD}
 use Rattle.ast.specs.declared.CompileError.{CompileError}
@@ -17,11 +17,13 @@ use Rattle.rules.specs.Unused.{unusedAll}
 use Rattle.rules.specs.Walk.{Walked as Walk, walk}
 use Rattle.rules.specs.Analyze.{counted, analyze}
 use Rattle.usage.specs.declared.NamePlace.{NamePlace}
+use Rattle.usage.specs.declared.Path.{Path}
 use Rattle.analyze.specs.declared.Declared.{Declared}
 use Rattle.analyze.specs.Items.{ContractAt, DeclaredAs, Given}
-use Rattle.analyze.specs.State.{tablesOf, Ready, faultIn, branchIn, OnlyFault, Moved, started, analyzed, finished, accepted, answered, Analyzed}
+use Rattle.analyze.specs.State.{pathAt, tablesOf, tablesWith, Ready, InUse, faultIn, branchIn, OnlyFault, Moved, started, analyzed, finished, accepted, answered, Analyzed}
 use Rattle.analyze.proofs.State.{outcome-fault, fault-some, fault-in, fault-only}
 use Rattle.analyze.proofs.Statements.{moved-on}
+use Rattle.analyze.proofs.Walking.{in-use, tables-same}
 
 -- what comes after flow and the count
 abbrev rest : Contract → Result (List Table)
@@ -68,6 +70,18 @@ started-ok c {w} h = go (buildAll (c .declarations)) refl
         let f : _≡_ {A = Result Walk} (ok (record { tables = ts; branch = 0 })) (ok w) = rw e at h in
         let g : record { tables = ts; branch = 0 } ≡ w = cc in
         rw (e, ← g)
+    go (err y) e = let f : _≡_ {A = Result Walk} (err y) (ok w) = rw e at h in let o : _≡_ {A = ℕ} 0 1 = cc in absurd (omega arith)
+
+-- it begins on path 0
+started-branch : (c : Contract) {w : Walk} → started (c .declarations) ≡ ok w → w .branch ≡ 0
+unfolding started
+started-branch c {w} h = go (buildAll (c .declarations)) refl
+  where
+    go : (y : Result (List Table)) → buildAll (c .declarations) ≡ y → w .branch ≡ 0
+    go (ok ts) e =
+        let f : _≡_ {A = Result Walk} (ok (record { tables = ts; branch = 0 })) (ok w) = rw e at h in
+        let g : record { tables = ts; branch = 0 } ≡ w = cc in
+        ap (λ w. w .branch) (sym g)
     go (err y) e = let f : _≡_ {A = Result Walk} (err y) (ok w) = rw e at h in let o : _≡_ {A = ℕ} 0 1 = cc in absurd (omega arith)
 
 -- a refusal in numbers
@@ -121,15 +135,26 @@ module _ {s t : List ℕ} {d : Declared} {c : Contract} {n : ℕ} (D : DeclaredA
       pub stops-at-build : (getD out₁ 0 0 ≡ 0 → ⊥) → Analyzed s t d (analyze c) rows₁ taken₁ out₁
       stops-at-build z = ends-moved m₁ z (λ x e. whole ∙ started-err c e)
 
-      module _ (z₁ : getD out₁ 0 0 ≡ 0) {j : ℕ} {rows₂ : List (List NamePlace)} {taken₂ out₂ : List ℕ} (m₂ : Moved s t d (walk (c .block) (d .target) (tablesOf s t d rows₁ taken₁) (branchIn out₁)) j rows₂ taken₂ out₂) where
-        after : analyze c ≡ (walk (c .block) (d .target) (tablesOf s t d rows₁ taken₁) (branchIn out₁) >>= λ w. unusedAll (w .tables) >> ok (w .tables))
-        after = whole ∙ started-ok c (moved-on m₁ z₁) ∙ ap (λ g. walk (c .block) g (tablesOf s t d rows₁ taken₁) (branchIn out₁) >>= λ w. unusedAll (w .tables) >> ok (w .tables)) (sym (D .target))
+      -- the walk begins on path 0, as the rows have it
+      module _ (z₁ : getD out₁ 0 0 ≡ 0) {p : Path} (load : 0 < d .count → p ≡ pathAt d rows₁ taken₁ 0) where
+        begins : branchIn out₁ ≡ 0
+        begins = started-branch c (moved-on m₁ z₁)
 
-        pub stops-at-walk : (getD out₂ 0 0 ≡ 0 → ⊥) → Analyzed s t d (analyze c) rows₂ taken₂ out₂
-        stops-at-walk z = ends-moved m₂ z (λ x e. after ∙ rw e)
+        here : branchIn out₁ < d .count → p ≡ pathAt d rows₁ taken₁ (branchIn out₁)
+        here = subst (λ n. n < d .count → p ≡ pathAt d rows₁ taken₁ n) (sym begins) load
 
-        pub ends : getD out₂ 0 0 ≡ 0 → {rows : List (List NamePlace)} {taken out : List ℕ} → Analyzed s t d (finished (tablesOf s t d rows₂ taken₂)) rows taken out → Analyzed s t d (analyze c) rows taken out
-        ends z a = ends-as a (sym (after ∙ rw (moved-on m₂ z)))
+        pub first-in-use : InUse s t d (branchIn out₁) p
+        first-in-use = in-use s t d rows₁ taken₁ (branchIn out₁) (m₁ .ready z₁) here
+
+        module _ {j : ℕ} {rows₂ : List (List NamePlace)} {taken₂ out₂ : List ℕ} (m₂ : Moved s t d (walk (c .block) (d .target) (tablesWith s t d rows₁ taken₁ (branchIn out₁) p) (branchIn out₁)) j rows₂ taken₂ out₂) where
+          after : analyze c ≡ (walk (c .block) (d .target) (tablesWith s t d rows₁ taken₁ (branchIn out₁) p) (branchIn out₁) >>= λ w. unusedAll (w .tables) >> ok (w .tables))
+          after = whole ∙ started-ok c (moved-on m₁ z₁) ∙ rw (tables-same s t d rows₁ taken₁ (branchIn out₁) (m₁ .ready z₁) here, ← D .target)
+
+          pub stops-at-walk : (getD out₂ 0 0 ≡ 0 → ⊥) → Analyzed s t d (analyze c) rows₂ taken₂ out₂
+          stops-at-walk z = ends-moved m₂ z (λ x e. after ∙ rw e)
+
+          pub ends : getD out₂ 0 0 ≡ 0 → {rows : List (List NamePlace)} {taken out : List ℕ} → Analyzed s t d (finished (tablesOf s t d rows₂ taken₂)) rows taken out → Analyzed s t d (analyze c) rows taken out
+          ends z a = ends-as a (sym (after ∙ rw (moved-on m₂ z)))
 
 pub given-at : {s t : List ℕ} {d : Declared} {n : ℕ} (C : ContractAt s t n) → DeclaredAs s t d (C .contract) n → Given s t d
 given-at {n = n} C D = record { contract = C .contract; count = n; rows = C .rows; declared = D }

@@ -9,6 +9,7 @@ use mathlib.Core.Path.{_≡_, refl, sym, ap, _∙_, subst}
 use borrow.Author.Tests.{ltb-true, ltb-false}
 use lib.Dec.{ltb}
 use lib.ListN.{length, getD, set, getElem?}
+use lib.Seq.{set-set}
 use Rattle.ast.specs.declared.Target.{Target}
 use Rattle.ast.specs.declared.Location.{Location}
 use Rattle.ast.specs.declared.ErrorKind.the-variants.{DeclarationPathMismatch}
@@ -29,7 +30,7 @@ use Rattle.usage.specs.declared.NamePlace.{NamePlace}
 use Rattle.usage.specs.declared.Path.{Path}
 use Rattle.usage.specs.Path.{tableOf}
 use Rattle.analyze.specs.declared.Declared.{Declared}
-use Rattle.analyze.specs.State.{pathAt, tablesOf, tablesWith, Ready, faultIn, branchIn, outcome, Moved, examined, passed}
+use Rattle.analyze.specs.State.{tablesOf, tablesWith, OnPath, Ready, faultIn, branchIn, outcome, Moved, examined, walkElse, passed}
 use Rattle.analyze.proofs.State.{passed-says, passed-zero, outcome-pass, outcome-fault, element-set, set-past, table-at, table-past}
 
 -- the same step under another name of its result
@@ -118,11 +119,10 @@ if-parts L s l true i x j (a, b, c, k, m, u, v, w, e) = record {
   rest = (c, w, λ g ts n v y p q. ap (λ x. walkStatement x g ts n) e ∙ rw (p, q, walkStatement));
 }
 
--- after a condition that passed: the tables are those of the rows, and the path's own is the one after the condition
-pub record Conditioned (s t : List ℕ) (d : Declared) (l : Location) (e : Expression) (ts : List Table) (n : ℕ) (rows : List (List NamePlace)) (taken out : List ℕ) : Type 0 where
-  pub is : examineAt (d .target) l e ts n ≡ ok (tableOf s t (pathAt d rows taken n))
-  pub tables : set ts n (tableOf s t (pathAt d rows taken n)) ≡ tablesOf s t d rows taken
-  pub branch : branchIn out ≡ n
+-- after a condition that passed on path n, from p to q: the path's own table is the one after the condition
+pub record Conditioned (s t : List ℕ) (d : Declared) (l : Location) (e : Expression) (rows : List (List NamePlace)) (taken : List ℕ) (n : ℕ) (p q : Path) : Type 0 where
+  pub is : examineAt (d .target) l e (tablesWith s t d rows taken n p) n ≡ ok (tableOf s t q)
+  pub tables : set (tablesWith s t d rows taken n p) n (tableOf s t q) ≡ tablesWith s t d rows taken n q
   pub within : n < d .count
 
 -- a path that is examined is one of those declared
@@ -137,19 +137,19 @@ path-within s t d l e rows taken n p {v} h = go (ltb n (d .count)) refl
         let f : _≡_ {A = Result Table} (err (record { loc = l; kind = DeclarationPathMismatch })) (ok v) = rw (set-past (tablesOf s t d rows taken) n (tableOf s t p) past, past, tableAt) at h in
         let o : _≡_ {A = ℕ} 0 1 = cc in absurd (omega arith)
 
-pub conditioned : (s t : List ℕ) (d : Declared) (l : Location) (e : Expression) (rows₀ : List (List NamePlace)) (taken₀ : List ℕ) (n : ℕ) (p : Path) {j : ℕ} {rows : List (List NamePlace)} {taken out : List ℕ} → Moved s t d (examined (d .target) l e (tablesWith s t d rows₀ taken₀ n p) n) j rows taken out → getD out 0 0 ≡ 0 → Conditioned s t d l e (tablesWith s t d rows₀ taken₀ n p) n rows taken out
-conditioned s t d l e rows₀ taken₀ n p {j} {rows} {taken} {out} m z =
-    let was = tablesWith s t d rows₀ taken₀ n p in
-    let P = examined-ok (d .target) l e was n (moved-on m z) in
-    let ts = ap (λ w. w .tables) (P .after) in
-    let inside : n < d .count = path-within s t d l e rows₀ taken₀ n p (P .is) in
-    let there : getElem? was n ≡ some (tableOf s t p) = element-set (tablesOf s t d rows₀ taken₀) n (tableOf s t p) (tableOf s t (pathAt d rows₀ taken₀ n)) (table-at s t d rows₀ taken₀ n inside) in
-    let same : some (tableOf s t (pathAt d rows taken n)) ≡ some (P .table) = sym (table-at s t d rows taken n inside) ∙ ap (λ ts. getElem? ts n) ts ∙ element-set was n (P .table) (tableOf s t p) there in
-    let v : tableOf s t (pathAt d rows taken n) ≡ P .table = cc in
+pub conditioned : (s t : List ℕ) (d : Declared) (l : Location) (e : Expression) (rows : List (List NamePlace)) (taken : List ℕ) (n : ℕ) (p q : Path) → OnPath s t d n p (examined (d .target) l e) q → Conditioned s t d l e rows taken n p q
+conditioned s t d l e rows taken n p q o =
+    let all = tablesOf s t d rows taken in
+    let was = tablesWith s t d rows taken n p in
+    let P = examined-ok (d .target) l e was n (o .result rows taken) in
+    let inside : n < d .count = path-within s t d l e rows taken n p (P .is) in
+    let at = table-at s t d rows taken n inside in
+    let there : getElem? was n ≡ some (tableOf s t p) = element-set all n (tableOf s t p) _ at in
+    let same : some (tableOf s t q) ≡ some (P .table) = sym (element-set all n (tableOf s t q) _ at) ∙ ap (λ w. getElem? (w .tables) n) (P .after) ∙ element-set was n (P .table) (tableOf s t p) there in
+    let v : tableOf s t q ≡ P .table = cc in
     record {
       is = P .is ∙ ap ok (sym v);
-      tables = ap (set was n) v ∙ sym ts;
-      branch = ap (λ w. w .branch) (P .after);
+      tables = set-set all n (tableOf s t p) (tableOf s t q);
       within = inside;
     }
 
@@ -201,43 +201,36 @@ pub going-end : {L : ℕ → Line} {s : List ℕ} {g : Target} {left i j : ℕ} 
 unfolding walk
 going-end {g = g} {ts = ts} {n = n} h e = let z = no-statements e (h .spells) in (sym (h .same) ∙ ap (λ b. walk b g ts n) (z .0), z .1)
 
--- an if, step by step: its condition has passed
-module _ {L : ℕ → Line} (s t : List ℕ) (d : Declared) {l : Location} {i j : ℕ} {x : Statement} (ts : List Table) (n : ℕ) (rows₁ : List (List NamePlace)) (taken₁ out₁ : List ℕ) where
-  module _ {h : Bool} (P : IfParts L s l h i x j) (C : Conditioned s t d l (P .cond) ts n rows₁ taken₁ out₁) where
-    inner-is : walk (P .block) (d .target) (set ts n (tableOf s t (pathAt d rows₁ taken₁ n))) n ≡ walk (P .block) (d .target) (tablesOf s t d rows₁ taken₁) (branchIn out₁)
-    inner-is = ap (λ w. walk (P .block) (d .target) w n) (C .tables) ∙ ap (walk (P .block) (d .target) (tablesOf s t d rows₁ taken₁)) (sym (C .branch))
+-- an if, step by step: its condition has passed on path n, from p to q
+module _ {L : ℕ → Line} (s t : List ℕ) (d : Declared) {l : Location} {i j : ℕ} {x : Statement} (rows₁ : List (List NamePlace)) (taken₁ : List ℕ) (n : ℕ) (p q : Path) where
+  module _ {h : Bool} (P : IfParts L s l h i x j) (C : Conditioned s t d l (P .cond) rows₁ taken₁ n p q) where
+    inner-is : walk (P .block) (d .target) (set (tablesWith s t d rows₁ taken₁ n p) n (tableOf s t q)) n ≡ walk (P .block) (d .target) (tablesWith s t d rows₁ taken₁ n q) n
+    inner-is = ap (λ w. walk (P .block) (d .target) w n) (C .tables)
 
     -- its block refuses
-    pub block-stops : {k : ℕ} {rows : List (List NamePlace)} {taken out : List ℕ} → Moved s t d (walk (P .block) (d .target) (tablesOf s t d rows₁ taken₁) (branchIn out₁)) k rows taken out → (getD out 0 0 ≡ 0 → ⊥) → Moved s t d (walkStatement x (d .target) ts n) j rows taken out
-    block-stops m z = moved-stop m z (walkStatement x (d .target) ts n) j (λ y e. P .stops₂ (d .target) ts n (tableOf s t (pathAt d rows₁ taken₁ n)) y (C .is) (inner-is ∙ e))
+    pub block-stops : {k : ℕ} {rows : List (List NamePlace)} {taken out : List ℕ} → Moved s t d (walk (P .block) (d .target) (tablesWith s t d rows₁ taken₁ n q) n) k rows taken out → (getD out 0 0 ≡ 0 → ⊥) → Moved s t d (walkStatement x (d .target) (tablesWith s t d rows₁ taken₁ n p) n) j rows taken out
+    block-stops m z = moved-stop m z (walkStatement x (d .target) (tablesWith s t d rows₁ taken₁ n p) n) j (λ y e. P .stops₂ (d .target) (tablesWith s t d rows₁ taken₁ n p) n (tableOf s t q) y (C .is) (inner-is ∙ e))
 
   -- there is no else
-  pub if-only : {h : Bool} (P : IfParts L s l h i x j) (C : Conditioned s t d l (P .cond) ts n rows₁ taken₁ out₁) → h ≡ false → {rows : List (List NamePlace)} {taken out : List ℕ} → Moved s t d (walk (P .block) (d .target) (tablesOf s t d rows₁ taken₁) (branchIn out₁)) (P .end) rows taken out → Moved s t d (walkStatement x (d .target) ts n) j rows taken out
+  pub if-only : {h : Bool} (P : IfParts L s l h i x j) (C : Conditioned s t d l (P .cond) rows₁ taken₁ n p q) → h ≡ false → {rows : List (List NamePlace)} {taken out : List ℕ} → Moved s t d (walk (P .block) (d .target) (tablesWith s t d rows₁ taken₁ n q) n) (P .end) rows taken out → Moved s t d (walkStatement x (d .target) (tablesWith s t d rows₁ taken₁ n p) n) j rows taken out
   if-only {h} P C e m = go h P C e m
     where
-      go : (h : Bool) (P : IfParts L s l h i x j) (C : Conditioned s t d l (P .cond) ts n rows₁ taken₁ out₁) → h ≡ false → {rows : List (List NamePlace)} {taken out : List ℕ} → Moved s t d (walk (P .block) (d .target) (tablesOf s t d rows₁ taken₁) (branchIn out₁)) (P .end) rows taken out → Moved s t d (walkStatement x (d .target) ts n) j rows taken out
-      go false P C e m = moved-as m (sym (P .rest .1 (d .target) ts n (tableOf s t (pathAt d rows₁ taken₁ n)) (C .is) ∙ inner-is P C)) (P .rest .0)
+      go : (h : Bool) (P : IfParts L s l h i x j) (C : Conditioned s t d l (P .cond) rows₁ taken₁ n p q) → h ≡ false → {rows : List (List NamePlace)} {taken out : List ℕ} → Moved s t d (walk (P .block) (d .target) (tablesWith s t d rows₁ taken₁ n q) n) (P .end) rows taken out → Moved s t d (walkStatement x (d .target) (tablesWith s t d rows₁ taken₁ n p) n) j rows taken out
+      go false P C e m = moved-as m (sym (P .rest .1 (d .target) (tablesWith s t d rows₁ taken₁ n p) n (tableOf s t q) (C .is) ∙ inner-is P C)) (P .rest .0)
       go true P C e m = let o : _≡_ {A = ℕ} 0 1 = cc in absurd (omega arith)
 
   -- there is one: its block, and the crossing to it
   pub record Else (P : IfParts L s l true i x j) (rows₂ : List (List NamePlace)) (taken₂ out₂ : List ℕ) : Type 0 where
     pub block : Block
     pub spells : SpellsBlock L s (P .end) block j
-    pub same : walkStatement x (d .target) ts n ≡ (cross l (tableOf s t (pathAt d rows₁ taken₁ n)) (record { tables = tablesOf s t d rows₂ taken₂; branch = branchIn out₂ }) >>= λ w. walk block (d .target) (w .tables) (w .branch))
+    pub same : walkStatement x (d .target) (tablesWith s t d rows₁ taken₁ n p) n ≡ walkElse block (d .target) l (tableOf s t q) (record { tables = tablesOf s t d rows₂ taken₂; branch = branchIn out₂ })
 
-  pub else-parts : (P : IfParts L s l true i x j) (C : Conditioned s t d l (P .cond) ts n rows₁ taken₁ out₁) {k : ℕ} {rows₂ : List (List NamePlace)} {taken₂ out₂ : List ℕ} → Moved s t d (walk (P .block) (d .target) (tablesOf s t d rows₁ taken₁) (branchIn out₁)) k rows₂ taken₂ out₂ → getD out₂ 0 0 ≡ 0 → Else P rows₂ taken₂ out₂
+  pub else-parts : (P : IfParts L s l true i x j) (C : Conditioned s t d l (P .cond) rows₁ taken₁ n p q) {k : ℕ} {rows₂ : List (List NamePlace)} {taken₂ out₂ : List ℕ} → Moved s t d (walk (P .block) (d .target) (tablesWith s t d rows₁ taken₁ n q) n) k rows₂ taken₂ out₂ → getD out₂ 0 0 ≡ 0 → Else P rows₂ taken₂ out₂
   else-parts P C {rows₂ = rows₂} {taken₂ = taken₂} {out₂ = out₂} m z = record {
     block = P .rest .0;
     spells = P .rest .1;
-    same = P .rest .2 (d .target) ts n (tableOf s t (pathAt d rows₁ taken₁ n)) (record { tables = tablesOf s t d rows₂ taken₂; branch = branchIn out₂ }) (C .is) (inner-is P C ∙ moved-on m z);
+    same = P .rest .2 (d .target) (tablesWith s t d rows₁ taken₁ n p) n (tableOf s t q) (record { tables = tablesOf s t d rows₂ taken₂; branch = branchIn out₂ }) (C .is) (inner-is P C ∙ moved-on m z);
   }
-
-  module _ {P : IfParts L s l true i x j} {rows₂ : List (List NamePlace)} {taken₂ out₂ : List ℕ} (E : Else P rows₂ taken₂ out₂) {k : ℕ} {rows₃ : List (List NamePlace)} {taken₃ out₃ : List ℕ} (m : Moved s t d (cross l (tableOf s t (pathAt d rows₁ taken₁ n)) (record { tables = tablesOf s t d rows₂ taken₂; branch = branchIn out₂ })) k rows₃ taken₃ out₃) where
-    pub cross-stops : (getD out₃ 0 0 ≡ 0 → ⊥) → Moved s t d (walkStatement x (d .target) ts n) j rows₃ taken₃ out₃
-    cross-stops z = moved-stop m z (walkStatement x (d .target) ts n) j (λ y e. E .same ∙ rw e)
-
-    pub if-else : getD out₃ 0 0 ≡ 0 → {rows : List (List NamePlace)} {taken out : List ℕ} → Moved s t d (walk (E .block) (d .target) (tablesOf s t d rows₃ taken₃) (branchIn out₃)) j rows taken out → Moved s t d (walkStatement x (d .target) ts n) j rows taken out
-    if-else z v = moved-as v (sym (E .same ∙ rw (moved-on m z))) refl
 
 -- the condition of an if, and its block, stand below it
 pub if-holds : {s t : List ℕ} {l : Location} {h : Bool} {i : ℕ} (st : StatementAt s t i) (P : IfParts (lineIn t) s l h i (st .tree) (st .next)) → ExpressionAt s t (i + 1) × BlockAt s t (P .mid)
@@ -251,9 +244,5 @@ statement-below {s} {t} st sp h = below (SpellsStatement (lineIn t) s) st sp h
 pub at-next : {L : ℕ → Line} {s : List ℕ} {i j : ℕ} {e : Expression} → SpellsExpression L s (suc i) e j → SpellsExpression L s (i + 1) e j
 at-next {L} {s} {i} {j} {e} sp = subst (λ m. SpellsExpression L s m e j) (sym (add-one i)) sp
 
-pub operand-stands : {s t : List ℕ} {i : ℕ} (st : StatementAt s t i) {e : Expression} → SpellsExpression (lineIn t) s (suc i) e (st .next) → ExpressionAt s t (i + 1)
-operand-stands {s} {t} st sp = below (SpellsExpression (lineIn t) s) st (at-next sp) (omega arith)
-
--- the crossing from the path that was kept after the condition
-pub crossed-from : {s t : List ℕ} {d : Declared} (l : Location) (w : Walk) {k : ℕ} {rows : List (List NamePlace)} {taken out : List ℕ} {v v′ : Table} → v ≡ v′ → Moved s t d (cross l v w) k rows taken out → Moved s t d (cross l v′ w) k rows taken out
-crossed-from {s} {t} {d} l w {k} {rows} {taken} {out} e m = subst (λ v. Moved s t d (cross l v w) k rows taken out) e m
+pub expression-below : {s t : List ℕ} {i : ℕ} (st : BlockAt s t i) {k m : ℕ} {e : Expression} → SpellsExpression (lineIn t) s (suc k) e m → m ≤ st .next → ExpressionAt s t (k + 1)
+expression-below {s} {t} st sp h = below (SpellsExpression (lineIn t) s) st (at-next sp) h

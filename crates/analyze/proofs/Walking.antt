@@ -1,14 +1,14 @@
 -- The steps of the walk, from what the functions below it answer.
-use Prim.Native.Nat.{ℕ, suc, _+_, _≤_, _<_}
+use Prim.Native.Nat.{ℕ, suc, _+_, _%_, _≤_, _<_}
 use native.Mathlib.Numerals.{add-one}
 use native.Mathlib.Omega.{arith}
 use mathlib.Core.Bool.{Bool, true, false}
-use mathlib.Core.List.{List}
+use mathlib.Core.List.{List, []}
 use mathlib.Core.Option.{some}
 use mathlib.Core.Path.{_≡_, refl, sym, ap, _∙_, subst}
 use borrow.Author.Tests.{ltb-true, ltb-false}
 use lib.Dec.{ltb}
-use lib.ListN.{length, getD, set, getElem?}
+use lib.ListN.{getD, set, getElem?}
 use lib.Seq.{set-set}
 use Rattle.ast.specs.declared.Location.{Location}
 use Rattle.ast.specs.declared.LocktimeOp.{LocktimeOp}
@@ -16,28 +16,26 @@ use Rattle.ast.specs.declared.Signed.{Signed}
 use Rattle.ast.specs.declared.ErrorKind.the-variants.{DeclarationPathMismatch}
 use Rattle.ast.specs.declared.CompileError.{CompileError}
 use Rattle.ast.specs.declared.Checked.{Checked}
-use Rattle.ast.specs.Tree.{Expression, Statement, LocktimeStatement, VerifyStatement, ExpressionStatement, fault}
-use Rattle.listing.specs.declared.Line.{Line}
-use Rattle.listing.specs.declared.StatementLine.{StatementLine}
+use Rattle.ast.specs.declared.Checked.the-variants.{Ok, Err}
+use Rattle.ast.specs.Tree.{Expression, Statement, Block, LocktimeStatement, VerifyStatement, ExpressionStatement, fault}
 use Rattle.rows.specs.Rows.{lineIn}
+use Rattle.reader.specs.Spells.{SpellsExpression}
 use Rattle.rules.specs.Result.{Result, ok, err}
 use Rattle.rules.specs.Table.{Table}
 use Rattle.rules.specs.Limits.{wait}
 use Rattle.rules.specs.Transfer.{transfer}
-use Rattle.rules.specs.Walk.{Walked as Walk, examine, tableAt, examineAt, cross, walkStatement}
+use Rattle.rules.specs.Walk.{Walked as Walk, examine, tableAt, examineAt, cross, walkStatement, walk}
 use Rattle.nodes.specs.declared.Answer.{Answer}
 use Rattle.nodes.specs.declared.Answer.the-variants.{Pass, Fault}
-use Rattle.nodes.specs.Stands.{walked}
-use Rattle.nodes.proofs.Laws.{walked-pass, walked-fault}
 use Rattle.usage.specs.declared.NamePlace.{NamePlace}
 use Rattle.usage.specs.declared.Path.{Path}
 use Rattle.usage.specs.declared.Used.{Used}
 use Rattle.usage.specs.Path.{tableOf, resultWith, resultOf, Onward, Walked}
 use Rattle.analyze.specs.declared.Declared.{Declared}
 use Rattle.analyze.specs.declared.walk.Step.{Step}
-use Rattle.analyze.specs.State.{pathAt, tablesOf, tablesWith, PathReady, Ready, InUse, PutBack, Tried, Told, branchIn, OnlyFault, Moved, examined, waited, stepOf, passed, turned}
-use Rattle.analyze.proofs.State.{turned-says, turned-zero, moved-refused, items-same, path-count, element-set, set-there, set-past, table-at, table-past, tables-set, ready-set}
-use Rattle.analyze.proofs.Statements.{moved-on, moved-end}
+use Rattle.analyze.specs.State.{pathAt, tablesOf, tablesWith, PathReady, Ready, InUse, Tried, Told, OnlyFault, Moved, examined, walkElse}
+use Rattle.analyze.proofs.State.{moved-refused, items-same, path-count, element-set, set-there, set-past, table-at, table-past, tables-set, ready-set}
+use Rattle.analyze.proofs.Statements.{moved-as}
 
 -- what a walk on one path says
 pub result-fault : (s t : List ℕ) (u : Used) {x : CompileError} {w : Result Table} → resultOf s t u ≡ w → u .answer ≡ Fault x → w ≡ err x
@@ -47,6 +45,22 @@ result-fault s t u h e = sym h ∙ ap (resultWith s t (u .path)) e
 pub result-pass : (s t : List ℕ) (u : Used) {n : ℕ} {w : Result Table} → resultOf s t u ≡ w → u .answer ≡ Pass n → w ≡ ok (tableOf s t (u .path))
 unfolding resultOf resultWith
 result-pass s t u h e = sym h ∙ ap (resultWith s t (u .path)) e
+
+-- the path n of those declared, its places read below 32, and the one after it
+module _ (d : Declared) (rows : List (List NamePlace)) (taken : List ℕ) (n : ℕ) {p : Path} (few : d .count ≤ 32) where
+  pub read-here : (n < d .count → p ≡ record { places = getD rows (n % 32) []; count = getD (d .counts) n 0; taken = getD taken n 0 }) → n < d .count → p ≡ pathAt d rows taken n
+  read-here h i = let e : n % 32 ≡ n = omega arith in h i ∙ rw e
+
+  pub read-next : (n % 32 + 1 < d .count → p ≡ record { places = getD rows ((n % 32 + 1) % 32) []; count = getD (d .counts) (n % 32 + 1) 0; taken = getD taken (n % 32 + 1) 0 }) → suc n < d .count → p ≡ pathAt d rows taken (suc n)
+  read-next h i =
+      let e : n % 32 + 1 ≡ suc n = omega arith in
+      let f : suc n % 32 ≡ suc n = omega arith in
+      h (omega arith) ∙ rw (e, f)
+
+-- rows and taken sets after the path p was put back as path n
+pub record PutBack (s t : List ℕ) (d : Declared) (n : ℕ) (p : Path) (rows : List (List NamePlace)) (taken : List ℕ) (rows′ : List (List NamePlace)) (taken′ : List ℕ) : Type 0 where
+  pub tables : tablesOf s t d rows′ taken′ ≡ tablesWith s t d rows taken n p
+  pub ready : Ready s t d rows′ taken′
 
 -- a path put back
 module _ (s t : List ℕ) (d : Declared) (rows : List (List NamePlace)) (taken : List ℕ) (n : ℕ) (r : Ready s t d rows taken) where
@@ -111,105 +125,79 @@ module _ (s t : List ℕ) (d : Declared) (n : ℕ) (p : Path) (l : Location) (e 
       stops = λ x a rows taken. rw (on-path rows taken, result-fault s t u (w .result) a);
     }
 
--- a wait
-pub tried-wait : (s t : List ℕ) (d : Declared) (n : ℕ) (p : Path) (l : Location) (o : LocktimeOp) (v : Signed) (j : ℕ) {c : Checked} {a : Answer} → InUse s t d n p → c ≡ wait l o v → a ≡ walked c j → Tried s t d n p (waited l o v) j (record { path = p; answer = a })
-tried-wait s t d n p l o v j {c} r said q = record {
-  passes = λ m b. let f = walked-pass c j (sym q ∙ b) in (sym (f .1), record { result = λ rows taken. rw (sym said ∙ f .0); in-use = r });
-  stops = λ x b rows taken. rw (sym said ∙ walked-fault c j (sym q ∙ b));
-}
-
--- a statement on the path n
-step-pass : (a : Answer) {m : ℕ} → stepOf a ≡ Step.Pass m → a ≡ Pass m
-unfolding stepOf
-step-pass (Pass n) {m} h = let e : n ≡ m = cc in ap Pass e
-step-pass (Fault x) h = let o : _≡_ {A = ℕ} 0 1 = cc in absurd (omega arith)
-
-step-fault : (a : Answer) {x : CompileError} → stepOf a ≡ Step.Fault x → a ≡ Fault x
-unfolding stepOf
-step-fault (Pass n) h = let o : _≡_ {A = ℕ} 0 1 = cc in absurd (omega arith)
-step-fault (Fault y) {x} h = let e : y ≡ x = cc in ap Fault e
-
-step-no-if : (a : Answer) {l : Location} {h : Bool} → stepOf a ≡ Step.If l h → ⊥
-unfolding stepOf
-step-no-if (Pass n) h = let o : _≡_ {A = ℕ} 0 1 = cc in omega arith
-step-no-if (Fault y) h = let o : _≡_ {A = ℕ} 0 1 = cc in omega arith
-
-told : (s t : List ℕ) (d : Declared) (n : ℕ) (p : Path) {x : Statement} (i : ℕ) {j k : ℕ} {w : List Table → ℕ → Result Walk} (u : Used) → ((ts : List Table) (n : ℕ) → walkStatement x (d .target) ts n ≡ w ts n) → j ≡ k → Tried s t d n p w j u → Told s t d n p x i k (record { path = u .path; step = stepOf (u .answer) })
-told s t d n p i u f q T = record {
-  passes = λ m e. let g = T .passes m (step-pass (u .answer) e) in (g .0 ∙ q, record { result = λ rows taken. f (tablesWith s t d rows taken n p) n ∙ g .1 .result rows taken; in-use = g .1 .in-use });
-  stops = λ y e rows taken. f (tablesWith s t d rows taken n p) n ∙ T .stops y (step-fault (u .answer) e) rows taken;
-  is-if = λ l h e. absurd (step-no-if (u .answer) e);
-}
-
-module _ (s t : List ℕ) (d : Declared) (n : ℕ) (p : Path) {x : Statement} (i : ℕ) {j : ℕ} {l : Location} where
-  pub told-wait : {m : ℕ} {o : LocktimeOp} {v : Signed} (u : Used) → x ≡ LocktimeStatement l m o v → j ≡ suc i → Tried s t d n p (waited l o v) (i + 1) u → Told s t d n p x i j (record { path = u .path; step = stepOf (u .answer) })
+-- what the step of a statement says of it
+module _ (s t : List ℕ) {x : Statement} (i : ℕ) {j : ℕ} {l : Location} where
+  pub told-wait : {m : ℕ} {o : LocktimeOp} {v : Signed} (c : Checked) {r : Step} → x ≡ LocktimeStatement l m o v → j ≡ suc i → c ≡ wait l o v → (c ≡ Ok → r ≡ Step.Pass (i + 1)) → ((y : CompileError) → c ≡ Err y → r ≡ Step.Fault y) → Told s t x i j r
   unfolding walkStatement
-  told-wait u h k T = told s t d n p i u (λ ts n. ap (λ y. walkStatement y (d .target) ts n) h) (add-one i ∙ sym k) T
+  told-wait Ok h k said f g = subst (Told s t x i j) (sym (f refl)) (add-one i ∙ sym k, λ g ts n. ap (λ y. walkStatement y g ts n) h ∙ rw (sym said))
+  told-wait (Err y) h k said f g = subst (Told s t x i j) (sym (g y refl)) (λ g ts n. ap (λ y. walkStatement y g ts n) h ∙ rw (sym said))
 
-  pub told-verify : {e : Expression} (u : Used) → x ≡ VerifyStatement l e → Tried s t d n p (examined (d .target) l e) j u → Told s t d n p x i j (record { path = u .path; step = stepOf (u .answer) })
+  pub told-verify : {e : Expression} → x ≡ VerifyStatement l e → SpellsExpression (lineIn t) s (suc i) e j → Told s t x i j (Step.Examine l)
   unfolding examined walkStatement
-  told-verify u h T = told s t d n p i u (λ ts n. ap (λ y. walkStatement y (d .target) ts n) h) refl T
+  told-verify {e} h sp = (e, sp, λ g ts n. ap (λ y. walkStatement y g ts n) h)
 
-  pub told-return : {e : Expression} (u : Used) → x ≡ ExpressionStatement l e → Tried s t d n p (examined (d .target) l e) j u → Told s t d n p x i j (record { path = u .path; step = stepOf (u .answer) })
+  pub told-return : {e : Expression} → x ≡ ExpressionStatement l e → SpellsExpression (lineIn t) s (suc i) e j → Told s t x i j (Step.Examine l)
   unfolding examined walkStatement
-  told-return u h T = told s t d n p i u (λ ts n. ap (λ y. walkStatement y (d .target) ts n) h) refl T
+  told-return {e} h sp = (e, sp, λ g ts n. ap (λ y. walkStatement y g ts n) h)
 
-  pub told-if : {h : Bool} → lineIn t i ≡ Line.Statement (StatementLine.IfStatement l h) → Told s t d n p x i j (record { path = p; step = Step.If l h })
-  told-if {h} line = record {
-    passes = λ m e. let o : _≡_ {A = ℕ} 0 1 = cc in absurd (omega arith);
-    stops = λ y e rows taken. let o : _≡_ {A = ℕ} 0 1 = cc in absurd (omega arith);
-    is-if = λ l′ h′ e. let f : l ≡ l′ = cc in let g : h ≡ h′ = cc in line ∙ ap (λ l. Line.Statement (StatementLine.IfStatement l h)) f ∙ ap (λ h. Line.Statement (StatementLine.IfStatement l′ h)) g;
+-- from the if-block on path n to the next path, whose table is p's; v is the table after the condition
+module _ (s t : List ℕ) (d : Declared) (n : ℕ) (p : Path) (l : Location) (v : Table) where
+  abbrev crossing : List Table → ℕ → Result Walk
+  crossing ts k = cross l v (record { tables = ts; branch = n })
+
+  -- no such path
+  none-next : (rows : List (List NamePlace)) (taken : List ℕ) → d .count ≤ suc n → crossing (tablesWith s t d rows taken (suc n) p) (suc n) ≡ err (fault DeclarationPathMismatch l)
+  unfolding cross tableAt
+  none-next rows taken h =
+      let past = table-past s t d rows taken (suc n) h in
+      rw (set-past (tablesOf s t d rows taken) (suc n) (tableOf s t p) past, past, tableAt)
+
+  pub crossed-past : (u : Used) → d .count ≤ suc n → u .answer ≡ Fault (fault DeclarationPathMismatch l) → Tried s t d (suc n) p crossing 0 u
+  crossed-past u h a = record {
+    passes = λ m b. let f : _≡_ {A = Answer} (Fault (fault DeclarationPathMismatch l)) (Pass m) = sym a ∙ b in let o : _≡_ {A = ℕ} 0 1 = cc in absurd (omega arith);
+    stops = λ x b rows taken.
+        let f : _≡_ {A = Answer} (Fault (fault DeclarationPathMismatch l)) (Fault x) = sym a ∙ b in
+        let g : _≡_ {A = CompileError} (fault DeclarationPathMismatch l) x = cc in
+        none-next rows taken h ∙ ap err g;
   }
 
--- a rule's answer on the path in use, put back
-module _ (s t : List ℕ) (d : Declared) (rows : List (List NamePlace)) (taken out : List ℕ) (p : Path) (w : List Table → ℕ → Result Walk) (j : ℕ) (u : Used) (T : Tried s t d (branchIn out) p w j u) where
-  pub used-stops : {x : CompileError} → u .answer ≡ Fault x → {rows′ : List (List NamePlace)} {taken′ out′ : List ℕ} → OnlyFault x rows′ taken′ out′ → Moved s t d (w (tablesWith s t d rows taken (branchIn out) p) (branchIn out)) j rows′ taken′ out′
-  used-stops a f = moved-refused f (T .stops _ a rows taken)
-
-  pub used-passes : length out ≡ 7 → {m k : ℕ} → u .answer ≡ Pass m → k ≡ m → {rows′ : List (List NamePlace)} {taken′ : List ℕ} (out′ : List ℕ) → out′ ≡ passed out k → PutBack s t d (branchIn out) (u .path) rows taken rows′ taken′ → Moved s t d (w (tablesWith s t d rows taken (branchIn out) p) (branchIn out)) j rows′ taken′ out′
-  used-passes full {m} a e {rows′} {taken′} out′ q b =
-      let g = T .passes m a in
-      moved-end d rows′ taken′ out out′ full (b .ready) (g .1 .result rows taken ∙ ap (λ ts. ok (record { tables = ts; branch = branchIn out })) (sym (b .tables)), e ∙ g .0) q
-
-  -- it has passed: the path's table is the one that the rows have
-  pub used-from : {rows′ : List (List NamePlace)} {taken′ out′ : List ℕ} → Moved s t d (w (tablesWith s t d rows taken (branchIn out) p) (branchIn out)) j rows′ taken′ out′ → getD out′ 0 0 ≡ 0 → branchIn out < d .count → (tableOf s t (u .path) ≡ tableOf s t (pathAt d rows′ taken′ (branchIn out))) × InUse s t d (branchIn out) (u .path)
-  used-from {rows′} {taken′} {out′} m z within = go (u .answer) refl
-    where
-      go : (a : Answer) → u .answer ≡ a → (tableOf s t (u .path) ≡ tableOf s t (pathAt d rows′ taken′ (branchIn out))) × InUse s t d (branchIn out) (u .path)
-      go (Fault x) a = let f : _≡_ {A = Result Walk} (err x) (ok (record { tables = tablesOf s t d rows′ taken′; branch = branchIn out′ })) = sym (T .stops x a rows taken) ∙ moved-on m z in let o : _≡_ {A = ℕ} 0 1 = cc in absurd (omega arith)
-      go (Pass k) a =
-          let g = T .passes k a .1 in
-          let f : _≡_ {A = Result Walk} (ok (record { tables = tablesWith s t d rows taken (branchIn out) (u .path); branch = branchIn out })) (ok (record { tables = tablesOf s t d rows′ taken′; branch = branchIn out′ })) = sym (g .result rows taken) ∙ moved-on m z in
-          let w : _≡_ {A = Walk} (record { tables = tablesWith s t d rows taken (branchIn out) (u .path); branch = branchIn out }) (record { tables = tablesOf s t d rows′ taken′; branch = branchIn out′ }) = cc in
-          let same : some (tableOf s t (u .path)) ≡ some (tableOf s t (pathAt d rows′ taken′ (branchIn out))) = sym (element-set (tablesOf s t d rows taken) (branchIn out) (tableOf s t (u .path)) (tableOf s t (pathAt d rows taken (branchIn out))) (table-at s t d rows taken (branchIn out) within)) ∙ ap (λ w. getElem? (w .tables) (branchIn out)) w ∙ table-at s t d rows′ taken′ (branchIn out) within in
-          let is : tableOf s t (u .path) ≡ tableOf s t (pathAt d rows′ taken′ (branchIn out)) = cc in
-          (is, g .in-use)
-
--- from the if-block to the next path; v is the table after the condition
-module _ (s t : List ℕ) (d : Declared) (l : Location) (v : Table) (rows : List (List NamePlace)) (taken out : List ℕ) (full : length out ≡ 7) where
-  abbrev come : Walk
-  come = record { tables = tablesOf s t d rows taken; branch = branchIn out }
-
-  pub crossed-past : d .count ≤ branchIn out + 1 → {rows′ : List (List NamePlace)} {taken′ out′ : List ℕ} → OnlyFault (fault DeclarationPathMismatch l) rows′ taken′ out′ → Moved s t d (cross l v come) (getD out 5 0) rows′ taken′ out′
+  -- the rule on the two paths
+  pub crossed : (u : Used) → suc n < d .count → InUse s t d (suc n) p → Walked s t p (transfer l v (tableOf s t p)) 0 u → Tried s t d (suc n) p crossing 0 u
   unfolding cross tableAt
-  crossed-past h f = moved-refused f (rw (← add-one (branchIn out), table-past s t d rows taken (branchIn out + 1) h, tableAt))
+  crossed u within r w = record {
+    passes = λ m a. (
+      w .onward m a .next,
+      record {
+        result = λ rows taken. rw (there rows taken, tableAt, result-pass s t u (w .result) a) (ap (λ ts. ok (record { tables = ts; branch = suc n })) (set-set (tablesOf s t d rows taken) (suc n) (tableOf s t p) (tableOf s t (u .path))));
+        in-use = stays s t d (suc n) r u (w .onward m a);
+      },
+    );
+    stops = λ x a rows taken. rw (there rows taken, tableAt, result-fault s t u (w .result) a);
+  }
+    where
+      there : (rows : List (List NamePlace)) (taken : List ℕ) → getElem? (tablesWith s t d rows taken (suc n) p) (suc n) ≡ some (tableOf s t p)
+      there rows taken = element-set (tablesOf s t d rows taken) (suc n) (tableOf s t p) (tableOf s t (pathAt d rows taken (suc n))) (table-at s t d rows taken (suc n) within)
 
-  module _ (within : branchIn out + 1 < d .count) (u : Used) (w : Walked s t (pathAt d rows taken (branchIn out + 1)) (transfer l v (tableOf s t (pathAt d rows taken (branchIn out + 1)))) 0 u) where
-    pub crossed-fault : {x : CompileError} → u .answer ≡ Fault x → {rows′ : List (List NamePlace)} {taken′ out′ : List ℕ} → OnlyFault x rows′ taken′ out′ → Moved s t d (cross l v come) (getD out 5 0) rows′ taken′ out′
-    unfolding cross tableAt
-    crossed-fault a f = moved-refused f (rw (← add-one (branchIn out), table-at s t d rows taken (branchIn out + 1) within, tableAt, result-fault s t u (w .result) a))
+  -- the else-block on that path, which is as the rows have it
+  module _ (rows : List (List NamePlace)) (taken : List ℕ) (r : Ready s t d rows taken) (load : suc n < d .count → p ≡ pathAt d rows taken (suc n)) (u : Used) (T : Tried s t d (suc n) p crossing 0 u) (b : Block) (j : ℕ) where
+    abbrev come : Walk
+    come = record { tables = tablesOf s t d rows taken; branch = n }
 
-    pub crossed-pass : Ready s t d rows taken → (n : ℕ) (out′ : List ℕ) → u .answer ≡ Pass n → out′ ≡ turned out (branchIn out + 1) → Moved s t d (cross l v come) (getD out 5 0) (set rows (branchIn out + 1) (u .path .places)) (set taken (branchIn out + 1) (u .path .taken)) out′
-    unfolding cross tableAt
-    crossed-pass r n out′ a q =
-        let p = branchIn out + 1 in
-        let on = w .onward n a in
-        let z = turned-says out p (tablesOf s t d (set rows p (u .path .places)) (set taken p (u .path .taken))) full in
-        let put = put-back s t d rows taken p r (u .path) within (stays s t d p (r .paths p) u on) in
-        record {
-          result = rw (q, ← add-one (branchIn out), table-at s t d rows taken p within, tableAt, result-pass s t u (w .result) a, ← put .tables) (z .0);
-          full = ap length q ∙ z .2;
-          next = λ y. ap (λ o. getD o 5 0) q ∙ z .1;
-          ready = λ y. put .ready;
-          refused = λ y. absurd (y (ap (λ o. getD o 0 0) q ∙ turned-zero out p full));
-        }
+    same-come : cross l v come ≡ crossing (tablesWith s t d rows taken (suc n) p) (suc n)
+    same-come = rw (tables-same s t d rows taken (suc n) r load)
+
+    pub else-stops : {x : CompileError} → u .answer ≡ Fault x → {rows′ : List (List NamePlace)} {taken′ out′ : List ℕ} → OnlyFault x rows′ taken′ out′ → Moved s t d (walkElse b (d .target) l v come) j rows′ taken′ out′
+    else-stops a f = moved-refused f (rw (same-come ∙ T .stops _ a rows taken))
+
+    pub else-passes : {m k : ℕ} → u .answer ≡ Pass m → k ≡ suc n → {rows′ : List (List NamePlace)} {taken′ out′ : List ℕ} → Moved s t d (walk b (d .target) (tablesWith s t d rows taken k (u .path)) k) j rows′ taken′ out′ → Moved s t d (walkElse b (d .target) l v come) j rows′ taken′ out′
+    else-passes {m} a e w = moved-as w (ap (λ k. walk b (d .target) (tablesWith s t d rows taken k (u .path)) k) e ∙ sym (rw (same-come ∙ T .passes m a .1 .result rows taken))) refl
+
+  -- after a pass that path is one of those declared
+  pub crossed-within : (u : Used) (T : Tried s t d (suc n) p crossing 0 u) {m : ℕ} → u .answer ≡ Pass m → suc n < d .count
+  crossed-within u T {m} a = go (ltb (suc n) (d .count)) refl
+    where
+      go : (b : Bool) → ltb (suc n) (d .count) ≡ b → suc n < d .count
+      go true q = ltb-true (suc n) (d .count) q
+      go false q =
+          let f : _≡_ {A = Result Walk} (err (fault DeclarationPathMismatch l)) (ok (record { tables = tablesWith s t d [] [] (suc n) (u .path); branch = suc n })) = sym (none-next [] [] (ltb-false (suc n) (d .count) q)) ∙ T .passes m a .1 .result [] [] in
+          let o : _≡_ {A = ℕ} 0 1 = cc in absurd (omega arith)

@@ -1,6 +1,6 @@
 -- The state of the walk over the statements: the rows of name places, the taken sets, and the answer in numbers.
 use Prim.Native.Nat.{ℕ, zero, suc, _≤_, _<_}
-use mathlib.Core.Bool.{Bool, true, false}
+use mathlib.Core.Bool.{true, false}
 use mathlib.Core.List.{List, [], _∷_}
 use mathlib.Core.Path.{_≡_}
 use lib.Dec.{eqb}
@@ -8,20 +8,17 @@ use lib.ListN.{length, getD, set, replicate}
 use Rattle.ast.specs.declared.Location.{Location}
 use Rattle.ast.specs.declared.CompileError.{CompileError}
 use Rattle.ast.specs.Numbers.{kindFrom}
-use Rattle.ast.specs.declared.LocktimeOp.{LocktimeOp}
-use Rattle.ast.specs.declared.Signed.{Signed}
 use Rattle.ast.specs.declared.Target.{Target}
-use Rattle.ast.specs.Tree.{Declaration, Expression, Statement, fault, number}
+use Rattle.ast.specs.Tree.{Declaration, Expression, Statement, Block, fault, number}
 use Rattle.listing.specs.declared.Line.{Line}
 use Rattle.listing.specs.declared.StatementLine.{StatementLine}
 use Rattle.rows.specs.Rows.{lineIn}
-use Rattle.nodes.specs.declared.Answer.{Answer}
+use Rattle.reader.specs.Spells.{SpellsExpression}
 use Rattle.nodes.specs.declared.Answer.the-variants.{Pass, Fault}
 use Rattle.rules.specs.Result.{Result, ok, err, _>>=_, _>>_}
 use Rattle.rules.specs.Table.{Table, params, buildAll}
-use Rattle.rules.specs.Limits.{wait}
 use Rattle.rules.specs.Unused.{unusedAll}
-use Rattle.rules.specs.Walk.{Walked, examineAt, walkStatement}
+use Rattle.rules.specs.Walk.{Walked, examineAt, cross, walkStatement, walk}
 use Rattle.names.specs.Items.{ItemsAt, itemsDown}
 use Rattle.usage.specs.declared.NamePlace.{NamePlace}
 use Rattle.usage.specs.declared.Path.{Path}
@@ -29,7 +26,6 @@ use Rattle.usage.specs.declared.Used.{Used}
 use Rattle.usage.specs.Path.{tableOf, noPlace, WellFormed}
 use Rattle.analyze.specs.declared.Declared.{Declared}
 use Rattle.analyze.specs.declared.walk.Step.{Step}
-use Rattle.analyze.specs.declared.walk.Stepped.{Stepped}
 
 -- the path p: its row of places, its count of items, its taken set
 abbrev pub pathAt : Declared → List (List NamePlace) → List ℕ → ℕ → Path
@@ -106,9 +102,9 @@ pub record Moved (s t : List ℕ) (d : Declared) (w : Result Walked) (j : ℕ) (
 unfoldable pub examined : Target → Location → Expression → List Table → ℕ → Result Walked
 examined g l e ts n = examineAt g l e ts n >>= λ t. ok (record { tables = set ts n t; branch = n })
 
--- a wait: the tables stay as they are
-abbrev pub waited : Location → LocktimeOp → Signed → List Table → ℕ → Result Walked
-waited l o v ts n = wait l o v >> ok (record { tables = ts; branch = n })
+-- the else-block b of an if at l: from w, where the walk of the if-block has come to, to the next path, t being the table after the condition
+abbrev pub walkElse : Block → Target → Location → Table → Walked → Result Walked
+walkElse b g l t w = cross l t w >>= λ w′. walk b g (w′ .tables) (w′ .branch)
 
 -- a path n that is declared can be used
 abbrev pub InUse : List ℕ → List ℕ → Declared → ℕ → Path → Type 0
@@ -117,11 +113,6 @@ InUse s t d n p = n < d .count → PathReady s t (getD (d .firsts) n 0) (getD (d
 -- the tables of all paths, that of path n being p's
 abbrev pub tablesWith : List ℕ → List ℕ → Declared → List (List NamePlace) → List ℕ → ℕ → Path → List Table
 tablesWith s t d rows taken n p = set (tablesOf s t d rows taken) n (tableOf s t p)
-
--- rows and taken sets after the path p was put back as path n
-pub record PutBack (s t : List ℕ) (d : Declared) (n : ℕ) (p : Path) (rows : List (List NamePlace)) (taken : List ℕ) (rows′ : List (List NamePlace)) (taken′ : List ℕ) : Type 0 where
-  pub tables : tablesOf s t d rows′ taken′ ≡ tablesWith s t d rows taken n p
-  pub ready : Ready s t d rows′ taken′
 
 -- after a pass on path n, from p to q: the rule's result, and path n can still be used
 pub record OnPath (s t : List ℕ) (d : Declared) (n : ℕ) (p : Path) (w : List Table → ℕ → Result Walked) (q : Path) : Type 0 where
@@ -133,16 +124,16 @@ pub record Tried (s t : List ℕ) (d : Declared) (n : ℕ) (p : Path) (w : List 
   pub passes : (m : ℕ) → u .answer ≡ Pass m → (m ≡ j) × OnPath s t d n p w (u .path)
   pub stops : (x : CompileError) → u .answer ≡ Fault x → (rows : List (List NamePlace)) (taken : List ℕ) → w (tablesWith s t d rows taken n p) n ≡ err x
 
--- what a rule's answer leaves to do
-unfoldable pub stepOf : Answer → Step
-stepOf (Pass n) = Step.Pass n
-stepOf (Fault x) = Step.Fault x
+-- the walk of the statement x, on any tables and path, is w
+abbrev pub Walks : Statement → (Target → List Table → ℕ → Result Walked) → Type 0
+Walks x w = (g : Target) (ts : List Table) (n : ℕ) → walkStatement x g ts n ≡ w g ts n
 
--- a statement at row i: an if is left to walk, any other is walked
-pub record Told (s t : List ℕ) (d : Declared) (n : ℕ) (p : Path) (x : Statement) (i j : ℕ) (r : Stepped) : Type 0 where
-  pub passes : (m : ℕ) → r .step ≡ Step.Pass m → (m ≡ j) × OnPath s t d n p (walkStatement x (d .target)) (r .path)
-  pub stops : (y : CompileError) → r .step ≡ Step.Fault y → (rows : List (List NamePlace)) (taken : List ℕ) → walkStatement x (d .target) (tablesWith s t d rows taken n p) n ≡ err y
-  pub is-if : (l : Location) (h : Bool) → r .step ≡ Step.If l h → lineIn t i ≡ Line.Statement (StatementLine.IfStatement l h)
+-- what a step says of the statement x, from row i up to j: it passes, is refused, examines an expression, or is an if
+abbrev pub Told : List ℕ → List ℕ → Statement → ℕ → ℕ → Step → Type 0
+Told s t x i j (Step.Pass m) = (m ≡ j) × Walks x (λ g ts n. ok (record { tables = ts; branch = n }))
+Told s t x i j (Step.Fault y) = Walks x (λ g ts n. err y)
+Told s t x i j (Step.Examine l) = (e : Expression) × SpellsExpression (lineIn t) s (suc i) e j × Walks x (λ g. examined g l e)
+Told s t x i j (Step.If l h) = lineIn t i ≡ Line.Statement (StatementLine.IfStatement l h)
 
 -- numbers that say a pass to a row
 unfoldable pub passed : List ℕ → ℕ → List ℕ

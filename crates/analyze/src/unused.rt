@@ -22,7 +22,7 @@ pub fn check_unused(
     let count = d.count;
     let mut p: u32 = 0;
     while p < count {
-        let path = path_at(d, rows, taken, p as usize);
+        let path = path_at(d, rows[p as usize], taken, p as usize);
         let c = check_unused_variable(table, path);
         match c {
             Checked::Err(x) => {

@@ -1,31 +1,30 @@
 // The statements of a contract, walked over its rows.
 ghost use mathlib.Core.Path.{_≡_};
 ghost use mathlib.Core.List.{List};
-ghost use Prim.Native.Nat.{ℕ, _<_, _≤_};
-ghost use lib.ListN.{length, replicate};
+ghost use Prim.Native.Nat.{ℕ, suc, _<_, _≤_};
+ghost use lib.ListN.{length, getD, replicate};
+ghost use Rattle.ast.specs.declared.Checked.{Checked};
+ghost use Rattle.ast.specs.declared.CompileError.{CompileError};
 ghost use Rattle.ast.specs.declared.ErrorKind.{ErrorKind};
 ghost use Rattle.ast.specs.Tree.{Expression, Statement, Block, fault};
 ghost use Rattle.listing.specs.declared.Line.{Line};
 ghost use Rattle.listing.specs.declared.StatementLine.{StatementLine};
 ghost use Rattle.rows.specs.Rows.{lineIn};
 ghost use Rattle.reader.specs.Spells.{SpellsExpression, SpellsStatement, SpellsBlock};
+ghost use Rattle.limits.specs.Somewhere.{Somewhere};
 ghost use Rattle.nodes.specs.declared.Answer.{Answer};
 ghost use Rattle.nodes.specs.Stands.{ExpressionAt, StatementAt, BlockAt};
-ghost use Rattle.rules.specs.Walk.{Walked, cross as crossOf, walkStatement, walk};
-ghost use Rattle.rules.specs.Result.{Result};
-ghost use Rattle.rules.specs.Table.{Table};
+ghost use Rattle.rules.specs.Walk.{cross as crossOf, walkStatement, walk};
 ghost use Rattle.usage.specs.Path.{tableOf, WellFormed, noPlace};
-ghost use Rattle.analyze.specs.State.{pathAt, tablesOf, tablesWith, noneTaken, noRows, refusal, OnlyFault, Ready, InUse, PutBack, Tried, Told, Moved, nextIn, branchIn, examined, waited, stepOf, passed, turned};
+ghost use Rattle.analyze.specs.declared.walk.Step.{Step};
+ghost use Rattle.analyze.specs.State.{tablesOf, tablesWith, noneTaken, noRows, refusal, OnlyFault, Ready, InUse, Tried, Told, Moved, nextIn, branchIn, examined, walkElse, passed, turned};
 use crate::Declared;
 use crate::examine::examine;
 use ast::Checked;
 use ast::CompileError;
 use ast::ErrorKind;
 use ast::Location;
-use ast::LocktimeOp;
-use ast::Signed;
 use ast::numbers::error_number;
-use limits::answer_of;
 use limits::check_wait;
 use listing::StatementLine;
 use nodes::Answer;
@@ -36,17 +35,12 @@ use usage::Path;
 use usage::Used;
 use usage::transfer_prefix_consumption;
 
-// What a statement leaves to do: to go on at a row, to refuse, or to walk the if that it is.
+// What a statement is to the walk: passed, refused, an expression to examine on the path in use, or an if.
 enum Step {
-    Pass(usize),
+    Pass(u32),
     Fault(CompileError),
+    Examine(Location),
     If(Location, bool),
-}
-
-// The path in use after a statement, and what is left to do.
-struct Stepped {
-    path: Path,
-    step: Step,
 }
 
 // The fault in numbers; no next row, no path in use.
@@ -95,15 +89,17 @@ pub fn refuse(taken: &mut [u32; 32], out: &mut [u32; 7], x: CompileError) -> [[N
 }
 
 // The refusal of a statement on a path that is not declared.
-fn refuse_path(loc: Location, taken: &mut [u32; 32], out: &mut [u32; 7]) -> [[NamePlace; 32]; 32]
-    requires { ⌜ (length (now taken) ≡ 32) × (length (now out) ≡ 7) ⌝ }
-    ensures { λ r. ⌜ OnlyFault (fault ErrorKind.DeclarationPathMismatch loc) r (now (taken .exit)) (now (out .exit)) ⌝ }
+fn refuse_path(loc: Location, path: Path) -> Used
+    ensures { λ r. ⌜ r ≡ record { path = path; answer = Answer.Fault (fault ErrorKind.DeclarationPathMismatch loc) } ⌝ }
 {
     let x = CompileError {
         loc,
         kind: ErrorKind::DeclarationPathMismatch,
     };
-    refuse(taken, out, x)
+    Used {
+        path,
+        answer: Answer::Fault(x),
+    }
 }
 
 // A pass to the next row, in numbers.
@@ -114,12 +110,11 @@ pub fn put_pass(out: &mut [u32; 7], next: u32)
     out[5] = next;
 }
 
-// The path p.
-pub fn path_at(d: Declared, rows: [[NamePlace; 32]; 32], taken: &[u32; 32], p: usize) -> Path
+// The path p, whose places are given.
+pub fn path_at(d: Declared, places: [NamePlace; 32], taken: &[u32; 32], p: usize) -> Path
     requires { ⌜ p < 32 ⌝ }
-    ensures { λ r. ⌜ r ≡ pathAt d rows (now (taken .entry)) p ⌝ }
+    ensures { λ r. ⌜ r ≡ record { places = places; count = getD (d .counts) p 0; taken = getD (now (taken .entry)) p 0 } ⌝ }
 {
-    let places = rows[p];
     let counts = d.counts;
     Path {
         places,
@@ -128,10 +123,10 @@ pub fn path_at(d: Declared, rows: [[NamePlace; 32]; 32], taken: &[u32; 32], p: u
     }
 }
 
-// The path in use as the rows have it, or one without items where no such path is declared.
-fn path_in_use(d: Declared, rows: [[NamePlace; 32]; 32], taken: &[u32; 32], branch: u32) -> Path
+// The path in use, whose places are given, or one without items where no such path is declared.
+pub fn path_in_use(d: Declared, places: [NamePlace; 32], taken: &[u32; 32], branch: u32) -> Path
     requires { ⌜ d .count ≤ 32 ⌝ }
-    ensures { λ r. ⌜ (branch < d .count → r ≡ pathAt d rows (now (taken .entry)) branch) ⌝ }
+    ensures { λ r. ⌜ (branch < d .count → r ≡ record { places = places; count = getD (d .counts) branch 0; taken = getD (now (taken .entry)) branch 0 }) ⌝ }
     ensures { λ r. ⌜ (d .count ≤ branch → r ≡ record { places = replicate 32 noPlace; count = 0; taken = 0 }) ⌝ }
 {
     if d.count <= branch {
@@ -141,52 +136,7 @@ fn path_in_use(d: Declared, rows: [[NamePlace; 32]; 32], taken: &[u32; 32], bran
             taken: 0,
         };
     }
-    path_at(d, rows, taken, branch as usize)
-}
-
-// The path in use, put back among the rows.
-fn put_path(
-    d: Declared,
-    branch: u32,
-    path: Path,
-    rows: [[NamePlace; 32]; 32],
-    taken: &mut [u32; 32],
-) -> [[NamePlace; 32]; 32]
-    requires { ⌜ d .count ≤ 32 ⌝ }
-    ensures { λ r. ⌜ ((s t : List ℕ) → Ready s t d rows (now (taken .entry)) → InUse s t d branch path → PutBack s t d branch path rows (now (taken .entry)) r (now (taken .exit))) ⌝ }
-{
-    if d.count <= branch {
-        return rows;
-    }
-    let p = branch as usize;
-    let places = path.places;
-    let mut held = rows;
-    held[p] = places;
-    taken[p] = path.taken;
-    held
-}
-
-// A rule's answer on the path in use: the refusal, or the path put back.
-fn put_used(
-    d: Declared,
-    u: Used,
-    rows: [[NamePlace; 32]; 32],
-    taken: &mut [u32; 32],
-    out: &mut [u32; 7],
-) -> [[NamePlace; 32]; 32]
-    requires { ⌜ (d .count ≤ 32) × (length (now taken) ≡ 32) × (length (now out) ≡ 7) × ((m : ℕ) → u .answer ≡ Answer.Pass m → m < 4294967296) ⌝ }
-    ensures { λ r. ⌜ ((s t : List ℕ) (p : Path) (w : List Table → ℕ → Result Walked) (j : ℕ) → Ready s t d rows (now (taken .entry)) → Tried s t d (branchIn (now (out .entry))) p w j u → Moved s t d (w (tablesWith s t d rows (now (taken .entry)) (branchIn (now (out .entry))) p) (branchIn (now (out .entry)))) j r (now (taken .exit)) (now (out .exit))) ⌝ }
-{
-    let a = u.answer;
-    match a {
-        Answer::Fault(x) => refuse(taken, out, x),
-        Answer::Pass(next) => {
-            let branch = out[6];
-            put_pass(out, (next % 4294967296) as u32);
-            let path = u.path;
-            put_path(d, branch, path, rows, taken)
-        }
-    }
+    path_at(d, places, taken, branch as usize)
 }
 
 // The expression at row i, on the path in use.
@@ -215,45 +165,27 @@ fn examine_at(
     examine(listing, table, d, branch as usize, i as usize, path)
 }
 
-// From the if-block to the next path, `from` being the path in use after the condition.
+// From the if-block to the next path `to`, `from` being the path in use after the condition.
 fn cross(
     listing: &[u8],
     table: &[u32],
     d: Declared,
     loc: Location,
+    branch: u32,
     from: Path,
-    rows: [[NamePlace; 32]; 32],
-    taken: &mut [u32; 32],
-    out: &mut [u32; 7],
-) -> [[NamePlace; 32]; 32]
-    requires { ⌜ WellFormed (now listing) (now table) from × Ready (now listing) (now table) d rows (now taken) × (length (now out) ≡ 7) ⌝ }
-    ensures { λ r. ⌜ Moved (now (listing .entry)) (now (table .entry)) d (crossOf loc (tableOf (now (listing .entry)) (now (table .entry)) from) (record { tables = tablesOf (now (listing .entry)) (now (table .entry)) d rows (now (taken .entry)); branch = branchIn (now (out .entry)) })) (nextIn (now (out .entry))) r (now (taken .exit)) (now (out .exit)) ⌝ }
+    to: Path,
+) -> Used
+    requires { ⌜ WellFormed (now listing) (now table) from × InUse (now listing) (now table) d (suc branch) to × (d .count ≤ 32) ⌝ }
+    ensures { λ r. ⌜ Tried (now (listing .entry)) (now (table .entry)) d (suc branch) to (λ ts n. crossOf loc (tableOf (now (listing .entry)) (now (table .entry)) from) (record { tables = ts; branch = branch })) 0 r ⌝ }
 {
-    let branch = out[6];
     let count = d.count;
     if count <= branch {
-        return refuse_path(loc, taken, out);
+        return refuse_path(loc, from);
     }
-    let next = branch + 1;
-    if count <= next {
-        return refuse_path(loc, taken, out);
+    if count <= branch + 1 {
+        return refuse_path(loc, from);
     }
-    let p = next as usize;
-    let to = path_at(d, rows, taken, p);
-    let u = transfer_prefix_consumption(listing, table, loc, from, to);
-    let a = u.answer;
-    match a {
-        Answer::Fault(x) => refuse(taken, out, x),
-        Answer::Pass(_) => {
-            put_branch(out, next);
-            let after = u.path;
-            let places = after.places;
-            let mut held = rows;
-            held[p] = places;
-            taken[p] = after.taken;
-            held
-        }
-    }
+    transfer_prefix_consumption(listing, table, loc, from, to)
 }
 
 // A pass on another path, in numbers.
@@ -264,107 +196,83 @@ pub fn put_branch(out: &mut [u32; 7], branch: u32)
     out[6] = branch;
 }
 
-// A wait: on to the next row, or the refusal.
-fn analyze_wait(loc: Location, op: LocktimeOp, v: Signed, next: usize, path: Path) -> Used
-    ensures { λ r. ⌜ ((s t : List ℕ) (d : Declared) (branch : ℕ) → InUse s t d branch path → Tried s t d branch path (waited loc op v) next r) ⌝ }
+// A wait that was checked: on to the next row, or the refusal.
+fn wait_step(c: Checked, next: u32) -> Step
+    ensures { λ r. ⌜ (c ≡ Checked.Ok → r ≡ Step.Pass next) ⌝ }
+    ensures { λ r. ⌜ ((x : CompileError) → c ≡ Checked.Err x → r ≡ Step.Fault x) ⌝ }
 {
-    let c = check_wait(loc, op, v);
-    let answer = answer_of(c, next);
-    Used { path, answer }
-}
-
-// A statement that is no if is walked.
-fn step_of(u: Used) -> Stepped
-    ensures { λ r. ⌜ r ≡ record { path = u .path; step = stepOf (u .answer) } ⌝ }
-{
-    let path = u.path;
-    let a = u.answer;
-    match a {
-        Answer::Pass(next) => Stepped {
-            path,
-            step: Step::Pass(next),
-        },
-        Answer::Fault(x) => Stepped {
-            path,
-            step: Step::Fault(x),
-        },
+    match c {
+        Checked::Ok => Step::Pass(next),
+        Checked::Err(x) => Step::Fault(x),
     }
 }
 
-// The statement at row i, on the path in use; an if is left to walk.
-fn analyze_statement(
-    listing: &[u8],
-    table: &[u32],
-    d: Declared,
-    branch: u32,
-    i: u32,
-    path: Path,
-) -> Stepped
-    requires { ⌜ StatementAt (now listing) (now table) i × InUse (now listing) (now table) d branch path × (d .count ≤ 32) ⌝ }
-    ensures { λ r. ⌜ ((x : Statement) (j : ℕ) → SpellsStatement (lineIn (now (table .entry))) (now (listing .entry)) i x j → Told (now (listing .entry)) (now (table .entry)) d branch path x i j r) ⌝ }
+// The statement at row i: a wait is checked here, the rest is left to the walk.
+fn analyze_statement(table: &[u32], i: u32) -> Step
+    requires { ⌜ Somewhere (λ s. StatementAt s (now table) i) ⌝ }
+    ensures { λ r. ⌜ ((s : List ℕ) (x : Statement) (j : ℕ) → SpellsStatement (lineIn (now (table .entry))) s i x j → Told s (now (table .entry)) x i j r) ⌝ }
 {
     let line = statement_at(table, i as usize);
     match line {
-        StatementLine::LocktimeStatement(w, op, v) => {
-            step_of(analyze_wait(w, op, v, (i + 1) as usize, path))
-        }
-        StatementLine::VerifyStatement(w) => {
-            step_of(examine_at(listing, table, d, w, branch, i + 1, path))
-        }
-        StatementLine::ExpressionStatement(w) => {
-            step_of(examine_at(listing, table, d, w, branch, i + 1, path))
-        }
-        StatementLine::IfStatement(w, e) => Stepped {
-            path,
-            step: Step::If(w, e),
-        },
+        StatementLine::LocktimeStatement(w, op, v) => wait_step(check_wait(w, op, v), i + 1),
+        StatementLine::VerifyStatement(w) => Step::Examine(w),
+        StatementLine::ExpressionStatement(w) => Step::Examine(w),
+        StatementLine::IfStatement(w, e) => Step::If(w, e),
     }
 }
 
-// The statements of the block at row i. The path in use goes along by itself; the rows are copied at an if and at the end only.
+// The statements of the block at row i. The path in use goes along by itself, and is put back among the rows at the end.
 pub fn analyze_block(
     listing: &[u8],
     table: &[u32],
     d: Declared,
     i: u32,
-    rows: [[NamePlace; 32]; 32],
+    mut path: Path,
+    mut rows: [[NamePlace; 32]; 32],
     taken: &mut [u32; 32],
     out: &mut [u32; 7],
 ) -> [[NamePlace; 32]; 32]
-    requires { ⌜ BlockAt (now listing) (now table) i × Ready (now listing) (now table) d rows (now taken) × (length (now out) ≡ 7) ⌝ }
-    ensures { λ r. ⌜ ((b : Block) (j : ℕ) → SpellsBlock (lineIn (now (table .entry))) (now (listing .entry)) i b j → Moved (now (listing .entry)) (now (table .entry)) d (walk b (d .target) (tablesOf (now (listing .entry)) (now (table .entry)) d rows (now (taken .entry))) (branchIn (now (out .entry)))) j r (now (taken .exit)) (now (out .exit))) ⌝ }
+    requires { ⌜ BlockAt (now listing) (now table) i × Ready (now listing) (now table) d rows (now taken) × (length (now out) ≡ 7) × InUse (now listing) (now table) d (branchIn (now out)) path ⌝ }
+    ensures { λ r. ⌜ ((b : Block) (j : ℕ) → SpellsBlock (lineIn (now (table .entry))) (now (listing .entry)) i b j → Moved (now (listing .entry)) (now (table .entry)) d (walk b (d .target) (tablesWith (now (listing .entry)) (now (table .entry)) d rows (now (taken .entry)) (branchIn (now (out .entry))) path) (branchIn (now (out .entry)))) j r (now (taken .exit)) (now (out .exit))) ⌝ }
 {
     let count = block_at(table, i as usize);
-    let mut held = rows;
-    let mut path = path_in_use(d, rows, taken, out[6]);
     let mut next = i + 1;
     let mut k: u32 = 0;
     while k < count {
         k += 1;
-        let stepped = analyze_statement(listing, table, d, out[6], next, path);
-        let step = stepped.step;
+        let step = analyze_statement(table, next);
         match step {
-            Step::Fault(x) => {
-                return refuse(taken, out, x);
-            }
-            Step::Pass(n) => {
-                path = stepped.path;
-                next = (n % 4294967296) as u32;
+            Step::Pass(n) => next = n,
+            Step::Fault(x) => return refuse(taken, out, x),
+            Step::Examine(w) => {
+                let used = examine_at(listing, table, d, w, out[6], next + 1, path);
+                let answer = used.answer;
+                match answer {
+                    Answer::Fault(x) => return refuse(taken, out, x),
+                    Answer::Pass(n) => {
+                        path = used.path;
+                        next = (n % 4294967296) as u32;
+                    }
+                }
             }
             Step::If(w, e) => {
-                let after = analyze_if(listing, table, d, w, e, next, path, held, taken, out);
-                held = after;
+                rows = analyze_if(listing, table, d, w, e, next, path, rows, taken, out);
                 if out[0] != 0 {
-                    return held;
+                    return rows;
                 }
-                path = path_in_use(d, held, taken, out[6]);
+                path = path_in_use(d, rows[(out[6] % 32) as usize], taken, out[6]);
                 next = out[5];
             }
         }
     }
     let branch = out[6];
     put_pass(out, next);
-    put_path(d, branch, path, held, taken)
+    if branch < d.count {
+        let places = path.places;
+        rows[branch as usize] = places;
+        taken[branch as usize] = path.taken;
+    }
+    rows
 }
 
 // An if at row i: its condition on the path in use, its block, and the else-block on the paths that follow.
@@ -384,23 +292,49 @@ fn analyze_if(
     ensures { λ r. ⌜ ((x : Statement) (j : ℕ) → SpellsStatement (lineIn (now (table .entry))) (now (listing .entry)) i x j → Moved (now (listing .entry)) (now (table .entry)) d (walkStatement x (d .target) (tablesWith (now (listing .entry)) (now (table .entry)) d rows (now (taken .entry)) (branchIn (now (out .entry))) path) (branchIn (now (out .entry)))) j r (now (taken .exit)) (now (out .exit))) ⌝ }
 {
     let used = examine_at(listing, table, d, loc, out[6], i + 1, path);
-    let held = put_used(d, used, rows, taken, out);
-    if out[0] != 0 {
-        return held;
+    let a = used.answer;
+    match a {
+        Answer::Fault(x) => refuse(taken, out, x),
+        Answer::Pass(next) => {
+            let from = used.path;
+            let then = (next % 4294967296) as u32;
+            let after = analyze_block(listing, table, d, then, from, rows, taken, out);
+            if out[0] != 0 {
+                return after;
+            }
+            if !has_else {
+                return after;
+            }
+            analyze_else(listing, table, d, loc, from, after, taken, out)
+        }
     }
-    let from = used.path;
-    let then = out[5];
-    let after = analyze_block(listing, table, d, then, held, taken, out);
-    if out[0] != 0 {
-        return after;
+}
+
+// The else-block, at the next row, on the next path; `from` is the path in use after the condition.
+fn analyze_else(
+    listing: &[u8],
+    table: &[u32],
+    d: Declared,
+    loc: Location,
+    from: Path,
+    rows: [[NamePlace; 32]; 32],
+    taken: &mut [u32; 32],
+    out: &mut [u32; 7],
+) -> [[NamePlace; 32]; 32]
+    requires { ⌜ BlockAt (now listing) (now table) (nextIn (now out)) × Ready (now listing) (now table) d rows (now taken) × (length (now out) ≡ 7) × WellFormed (now listing) (now table) from ⌝ }
+    ensures { λ r. ⌜ ((b : Block) (j : ℕ) → SpellsBlock (lineIn (now (table .entry))) (now (listing .entry)) (nextIn (now (out .entry))) b j → Moved (now (listing .entry)) (now (table .entry)) d (walkElse b (d .target) loc (tableOf (now (listing .entry)) (now (table .entry)) from) (record { tables = tablesOf (now (listing .entry)) (now (table .entry)) d rows (now (taken .entry)); branch = branchIn (now (out .entry)) })) j r (now (taken .exit)) (now (out .exit))) ⌝ }
+{
+    let branch = out[6] % 32;
+    let next = branch + 1;
+    let to = path_in_use(d, rows[(next % 32) as usize], taken, next);
+    let crossed = cross(listing, table, d, loc, out[6], from, to);
+    let a = crossed.answer;
+    match a {
+        Answer::Fault(x) => refuse(taken, out, x),
+        Answer::Pass(_) => {
+            put_branch(out, next);
+            let other = out[5];
+            analyze_block(listing, table, d, other, crossed.path, rows, taken, out)
+        }
     }
-    if !has_else {
-        return after;
-    }
-    let crossed = cross(listing, table, d, loc, from, after, taken, out);
-    if out[0] != 0 {
-        return crossed;
-    }
-    let other = out[5];
-    analyze_block(listing, table, d, other, crossed, taken, out)
 }

@@ -16,8 +16,8 @@ extern "C" {
 
 /* An item: the number of its P line's row, which is its listing line less 1, and the listing line that took it. */
 struct bithoven_place {
-    uint32_t row;
-    uint32_t line;
+    uint16_t row;
+    uint16_t line;
 };
 
 /* A path: `count` places from the stack's top, which is the last declared item; position k is taken if bit k of `taken` is

@@ -244,18 +244,18 @@ module _ {s t : List ℕ} {p : Path} {w : Result Table} {r : Left} where
 
 -- ---- the variable and the if of a row
 module _ (s t : List ℕ) (i : ℕ) where
-  pub variable-far : 4294967295 ≤ i → variableIn s t i ≡ Missing
+  pub variable-far : 65535 ≤ i → variableIn s t i ≡ Missing
   unfolding variableIn
-  variable-far h = rw (le-ltb i 4294967295 h)
+  variable-far h = rw (le-ltb i 65535 h)
 
-  module _ (low : i < 4294967295) where
+  module _ (low : i < 65535) where
     pub variable-out : length t / 9 ≤ i → variableIn s t i ≡ Missing
     unfolding variableIn
-    variable-out h = rw (lt-ltb i 4294967295 low, row-not t i h)
+    variable-out h = rw (lt-ltb i 65535 low, row-not t i h)
 
     variable-is : i < length t / 9 → {l : Line} → lineIn t i ≡ l → variableIn s t i ≡ variableOf s (expressionLine l)
     unfolding variableIn
-    variable-is h e = rw (lt-ltb i 4294967295 low, row-there t i h, e)
+    variable-is h e = rw (lt-ltb i 65535 low, row-there t i h, e)
 
     module _ (h : i < length t / 9) (l : Line) (e : l ≡ lineIn t i) where
       pub variable-other : OneOf (0 ∷ 1 ∷ 2 ∷ 3 ∷ 4 ∷ 6 ∷ []) (tagOf LineT.the-type l) → variableIn s t i ≡ Missing
@@ -302,7 +302,7 @@ where-at : {w : Location} {x : Place} (b : Bool) (v : RowVariable) → whereVari
 where-at true v h = (refl, h)
 where-at false v h = let z : _≡_ {A = ℕ} 0 1 = cc in absurd (omega arith)
 
--- a variable that was found: its name lies in the listing, and its listing line is a number of 32 bits
+-- a variable that was found: its name lies in the listing, and its listing line is a number of 16 bits
 named-at : (s : List ℕ) (w : Location) (x : Place) (a : Option (Location × Place)) → namedVariable s a ≡ At w x → isInside s x ≡ true
 unfolding namedVariable
 named-at s w x none h = let z : _≡_ {A = ℕ} 0 1 = cc in absurd (omega arith)
@@ -317,11 +317,11 @@ unfolding variableOf
 of-at s w x none h = let z : _≡_ {A = ℕ} 0 1 = cc in absurd (omega arith)
 of-at s w x (some l) h = named-at s w x (nameOf l) h
 
-pub variable-sound : (s t : List ℕ) (i : ℕ) (w : Location) (x : Place) → variableIn s t i ≡ At w x → Inside s x × (i + 1 < 4294967296)
+pub variable-sound : (s t : List ℕ) (i : ℕ) (w : Location) (x : Place) → variableIn s t i ≡ At w x → Inside s x × (i + 1 < 65536)
 unfolding variableIn
 variable-sound s t i w x h =
-    let k = where-at (ltb i 4294967295 && isRow t i) (variableOf s (expressionLine (lineIn t i))) h in
-    let l = ltb-true i 4294967295 (and-true (ltb i 4294967295) (isRow t i) (k .0) .0) in
+    let k = where-at (ltb i 65535 && isRow t i) (variableOf s (expressionLine (lineIn t i))) h in
+    let l = ltb-true i 65535 (and-true (ltb i 65535) (isRow t i) (k .0) .0) in
     (inside-so s x (of-at s w x (expressionLine (lineIn t i)) (k .1)), omega (arith, l))
 
 -- a path by value has 32 places

@@ -75,9 +75,9 @@ unfoldable pub variableOf : List ℕ → Option ExpressionLine → Variable
 variableOf s none = Variable.Missing
 variableOf s (some l) = namedVariable s (nameOf l)
 
--- the variable of row i, whose listing line is a number of 32 bits
+-- the variable of row i, whose listing line is a number of 16 bits
 unfoldable pub variableIn : List ℕ → List ℕ → ℕ → Variable
-variableIn s t i = whereVariable (ltb i 4294967295 && isRow t i) (variableOf s (expressionLine (lineIn t i)))
+variableIn s t i = whereVariable (ltb i 65535 && isRow t i) (variableOf s (expressionLine (lineIn t i)))
 
 unfoldable pub ifOf : Option StatementLine → Branch
 ifOf none = Branch.Other

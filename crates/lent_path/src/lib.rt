@@ -116,7 +116,7 @@ pub fn is_path(listing: &[u8], table: &[u32], path: Path) -> bool
 fn variable_at(listing: &[u8], table: &[u32], i: usize) -> Variable
     ensures { λ r. ⌜ r ≡ variableIn (now (listing .entry)) (now (table .entry)) i ⌝ }
 {
-    if 4294967295 <= i {
+    if 65535 <= i {
         return Variable::Missing;
     }
     if table.len() / 9 <= i {

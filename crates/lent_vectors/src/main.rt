@@ -112,8 +112,8 @@ fn print_step(name: &[u8], i: usize, lent: Left, held: Left) {
     print_number(p.taken, b" by ");
     let first = p.places[0];
     let second = p.places[1];
-    print_number(first.line, b",");
-    print_number(second.line, b"; ");
+    print_number(first.line as u32, b",");
+    print_number(second.line as u32, b"; ");
     if !same_answer(a, b) {
         io::write_all(STDOUT_FILENO, b"OTHER ANSWER\n");
         return;
@@ -150,7 +150,7 @@ fn transfer_both(listing: &[u8], table: &[u32], i: usize, from: Both, p: Both) -
 }
 
 // A path of two items.
-fn two_items(top: u32, below: u32) -> Both {
+fn two_items(top: u16, below: u16) -> Both {
     let mut places = [NamePlace { row: 0, line: 0 }; 32];
     places[0] = NamePlace { row: top, line: 0 };
     places[1] = NamePlace {

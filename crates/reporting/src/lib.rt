@@ -55,10 +55,10 @@ fn took(bit: u32) -> u32
 }
 
 // The line that took it, 0 for an item that is not taken.
-fn line_if(bit: u32, line: u32) -> u32
+fn line_if(bit: u32, line: u16) -> u32
     ensures { λ r. ⌜ r ≡ lineIf bit line ⌝ }
 {
-    if bit == 0 { 0 } else { line }
+    if bit == 0 { 0 } else { line as u32 }
 }
 
 // A field with a name of the listing.
@@ -164,7 +164,7 @@ fn put_paths(
     let mut next = at;
     let mut p: u32 = 0;
     while p < count {
-        let path = path_at(d, rows, taken, p as usize);
+        let path = path_at(d, rows[p as usize], taken, p as usize);
         next = put_path(listing, table, output, writing, next, p, path);
         p += 1;
     }

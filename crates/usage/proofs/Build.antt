@@ -29,8 +29,16 @@ use Rattle.usage.specs.declared.NamePlace.{NamePlace}
 use Rattle.usage.specs.declared.Path.{Path}
 use Rattle.usage.specs.declared.Used.{Used}
 use Rattle.usage.specs.Path.{takenBy, tableFrom, tableOf, noPlace, WellFormed, resultWith, resultOf}
-use Rattle.usage.specs.Tables.{added, Built}
+use Rattle.usage.specs.Tables.{Built}
 use Rattle.usage.proofs.Tables.{row-named}
+
+-- one more item, at position n
+abbrev addedAt : ℕ → Path → ℕ → Path
+addedAt n p row = record { places = set (p .places) n (record { row = row; line = 0 }); count = n + 1; taken = p .taken }
+
+-- one more item, the last
+abbrev added : Path → ℕ → Path
+added p row = addedAt (p .count) p row
 
 -- an item that is not taken
 abbrev fresh : StackParam → Entry
@@ -241,3 +249,6 @@ module _ {s t : List ℕ} {first count k : ℕ} {p : Path} (b : Building s t fir
           table = added-table (b .sound) (first + (count - 1 - k)) room named (b .untouched) ∙ ap (λ tb. tb ++ (fresh q ∷ [])) (b .table) ∙ sym (map-last (take k l) q) ∙ ap (map fresh) (sym (gone s t first count k lt));
           rest = ap (λ ps. entered ps (drop (suc k) l)) (gone s t first count k lt) ∙ entered-more (take k l) q (drop (suc k) l) (found h) ∙ ap (entered (take k l)) (sym (come s t first count k lt)) ∙ b .rest;
         })
+
+pub at-count : {s t : List ℕ} {first count k : ℕ} (p : Path) (row : ℕ) {n : ℕ} → p .count ≡ n → Building s t first count k (added p row) → Building s t first count k (addedAt n p row)
+at-count {s} {t} {first} {count} {k} p row e b = subst (λ n. Building s t first count k (addedAt n p row)) e b

@@ -1,10 +1,10 @@
 -- A path built from a declaration, and two paths side by side.
-use Prim.Native.Nat.{ℕ, _+_}
+use Prim.Native.Nat.{ℕ}
 use mathlib.Core.Bool.{Bool, false}
 use mathlib.Core.List.{List}
 use mathlib.Core.Option.{some, none}
 use mathlib.Core.Path.{_≡_}
-use lib.ListN.{set, getElem?}
+use lib.ListN.{getElem?}
 use Rattle.ast.specs.Tree.{same, Declaration}
 use Rattle.rules.specs.Table.{Table, build}
 use Rattle.nodes.specs.declared.Answer.the-variants.{Pass}
@@ -12,10 +12,6 @@ use Rattle.usage.specs.declared.Path.{Path}
 use Rattle.usage.specs.declared.Used.{Used}
 use Rattle.usage.specs.Path.{WellFormed, resultOf}
 pub use Rattle.usage.specs.Path.{noPlace}
-
--- one more item, the last
-abbrev pub added : Path → ℕ → Path
-added p row = record { places = set (p .places) (p .count) (record { row = row; line = 0 }); count = p .count + 1; taken = p .taken }
 
 -- what is built from a declaration: the rule's result; after a pass the next row is j, and the path is well formed
 pub record Built (s t : List ℕ) (d : Declaration) (j : ℕ) (u : Used) : Type 0 where

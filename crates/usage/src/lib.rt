@@ -22,7 +22,7 @@ ghost use Rattle.rules.specs.Unused.{unused};
 ghost use Rattle.rules.specs.Transfer.{transfer};
 ghost use Rattle.names.specs.Items.{ItemsAt};
 ghost use lib.ListN.{replicate};
-ghost use Rattle.usage.specs.Tables.{noPlace, added, Built, agreeAt};
+ghost use Rattle.usage.specs.Tables.{noPlace, Built, agreeAt};
 ghost use Rattle.limits.specs.Somewhere.{Somewhere};
 ghost use Rattle.ast.specs.Tree.{Expression, Factor};
 ghost use Rattle.usage.specs.Walk.{SpellsExpressions, ExpressionsAt, usageAll, FactorParts, PartsAre, Walks};
@@ -41,11 +41,12 @@ use nodes::expression_at;
 use nodes::factor_at;
 use text::Place;
 
-// Where an item's name stands, as the number of its row, and the listing line that took the item (0 where none).
+// Where an item's name stands, as the number of its row, and the listing line that took the item (0 where none). A listing has at most 1024
+// lines; with 16 bits each the tables of all paths take 4 kB.
 #[repr(C)]
 pub struct NamePlace {
-    pub row: u32,
-    pub line: u32,
+    pub row: u16,
+    pub line: u16,
 }
 
 // A path's items, position 0 being the top; the taken positions are the ones of `taken`.
@@ -101,7 +102,7 @@ pub fn is_top_run(taken: u32) -> bool
 }
 
 // Position k taken by a line.
-pub fn mark(path: Path, k: u32, line: u32) -> Path
+pub fn mark(path: Path, k: u32, line: u16) -> Path
     requires { ⌜ k < 32 ⌝ }
     ensures { λ r. ⌜ r ≡ marked path k line ⌝ }
 {
@@ -152,7 +153,7 @@ pub fn find_place(listing: &[u8], table: &[u32], x: Place, path: Path) -> Found
 
 // The variable x of row i: unknown 12, taken before 13, a smaller position not yet taken 15; else the row's listing line takes it.
 pub fn take(listing: &[u8], table: &[u32], i: usize, loc: Location, x: Place, path: Path) -> Used
-    requires { ⌜ Inside (now listing) x × WellFormed (now listing) (now table) path × (i + 1 < 4294967296) ⌝ }
+    requires { ⌜ Inside (now listing) x × WellFormed (now listing) (now table) path × (i + 1 < 65536) ⌝ }
     ensures { λ r. ⌜ Walked (now (listing .entry)) (now (table .entry)) path (takeOf false loc (suc i) (part (now (listing .entry)) x) (tableOf (now (listing .entry)) (now (table .entry)) path)) (suc i) r ⌝ }
 {
     let Found::At(k) = find_place(listing, table, x, path) else {
@@ -165,7 +166,7 @@ pub fn take(listing: &[u8], table: &[u32], i: usize, loc: Location, x: Place, pa
     if first_free(taken) < k {
         return refuse(path, ErrorKind::InvalidConsumptionOrder, loc);
     }
-    pass(mark(path, k, (i + 1) as u32), i + 1)
+    pass(mark(path, k, (i + 1) as u16), i + 1)
 }
 
 // Below a signature check, whose factor stands at row i.
@@ -299,18 +300,6 @@ fn no_items() -> Path
     }
 }
 
-// One more item, below the others.
-fn add_item(path: Path, row: u32) -> Path
-    requires { ⌜ path .count < 32 ⌝ }
-    ensures { λ r. ⌜ r ≡ added path row ⌝ }
-{
-    let mut out = path;
-    let at = path.count as usize;
-    out.places[at] = NamePlace { row, line: 0 };
-    out.count = path.count + 1;
-    out
-}
-
 // The path of the `count` items whose rows begin at `first`, from the last declared to the first: a name already met is 11 at the one met now.
 pub fn build_symbol_table(listing: &[u8], table: &[u32], first: usize, count: u32) -> Used
     requires { ⌜ ItemsAt (now listing) (now table) count first × (count ≤ 32) ⌝ }
@@ -327,7 +316,11 @@ pub fn build_symbol_table(listing: &[u8], table: &[u32], first: usize, count: u3
                 return refuse(path, ErrorKind::DuplicateVariable, it.loc);
             }
             Found::Missing => {
-                path = add_item(path, row as u32);
+                path.places[k as usize] = NamePlace {
+                    row: row as u16,
+                    line: 0,
+                };
+                path.count = k + 1;
             }
         }
         k += 1;

@@ -3,7 +3,7 @@ use mathlib.Core.Path.{ap, _∙_}
 use lib.ListN.{length, getD}
 use Rattle.analyze.proofs.State.{turned-says, turned-branch}
 use Rattle.analyze.proofs.Counting.{block-stands}
-use Rattle.analyze.proofs.Analyzing.{stops-at-shape, stops-at-build, stops-at-walk, ends, given-at}
+use Rattle.analyze.proofs.Analyzing.{stops-at-shape, stops-at-build, first-in-use, stops-at-walk, ends, given-at}
 use borrow.Author.Needs.{needs}
 use Rattle.analyze.proofs.analyze.Statement.{statement}
 use Rattle.analyze.proofs.analyze.Tie as tie
@@ -52,38 +52,32 @@ returns-2 c =
     let m₁ = c .before .before .build-tables .ensures x _ D in
     stops-at-build D shape passes m₁ (c .if1 .taken)
 
-analyze-block-requires : tie.Need-analyze-block-requires
-analyze-block-requires c κs =
+array-copy-out-path-in-use : tie.Need-array-copy-out-path-in-use
+array-copy-out-path-in-use c = search needs
+
+path-in-use-requires : tie.Need-path-in-use-requires
+path-in-use-requires c κs =
     let pre = c .before .before .before .before .before .before .before .before .before .before .before .before .before .before .pre in
     let C = pre .0 in
     let g = given-at C (pre .1 (C .contract) (C .spells)) in
-    let m₁ = c .before .before .before .before .build-tables .ensures _ _ (g .declared) in
-    (block-stands g, m₁ .ready (c .before .before .if1 .left), m₁ .full)
+    c .before .before .before .before .build-tables .ensures _ _ (g .declared) .ready (c .before .before .if1 .left) .few
+
+analyze-block-requires : tie.Need-analyze-block-requires
+analyze-block-requires c κs =
+    let pre = c .before .before .before .before .before .before .before .before .before .before .before .before .before .before .before .before .before .pre in
+    let C = pre .0 in
+    let g = given-at C (pre .1 (C .contract) (C .spells)) in
+    let m₁ = c .before .before .before .before .before .before .before .build-tables .ensures _ _ (g .declared) in
+    let shape = c .before .before .before .before .before .before .before .before .before .before .before .before .before .before .check-shape .ensures _ _ _ (g .declared) in
+    let passes = c .before .before .before .before .before .before .before .before .before .before .before .before .enum-told .given .1 in
+    let z₁ = c .before .before .before .before .before .if1 .left in
+    (block-stands g, m₁ .ready z₁, m₁ .full, first-in-use (g .declared) shape passes m₁ z₁ (c .before .before .path-in-use .ensures .0))
 
 element-copy-out-if2 : tie.Need-element-copy-out-if2
 element-copy-out-if2 c = search needs
 
 returns-3 : tie.Need-returns-3
 returns-3 c =
-    let pre = c .before .before .before .before .before .before .before .before .before .before .before .before .before .before .before .before .before .pre in
-    λ x sp.
-    let D = pre .1 x sp in
-    let shape = c .before .before .before .before .before .before .before .before .before .before .before .before .before .before .check-shape .ensures _ x _ D in
-    let passes = c .before .before .before .before .before .before .before .before .before .before .before .before .enum-told .given .1 in
-    let m₁ = c .before .before .before .before .before .before .before .build-tables .ensures x _ D in
-    let z₁ = c .before .before .before .before .before .if1 .left in
-    let m₂ = c .before .before .analyze-block .ensures (x .block) _ (D .block) in
-    stops-at-walk D shape passes m₁ z₁ m₂ (c .if2 .taken)
-
-finish-requires : tie.Need-finish-requires
-finish-requires c κs =
-    let C = c .before .before .before .before .before .before .before .before .before .before .before .before .before .before .before .before .before .before .before .pre .0 in
-    let g = given-at C (c .before .before .before .before .before .before .before .before .before .before .before .before .before .before .before .before .before .before .before .pre .1 (C .contract) (C .spells)) in
-    let m₂ = c .before .before .before .before .analyze-block .ensures _ _ (g .declared .block) in
-    (m₂ .ready (c .before .before .if2 .left), m₂ .full)
-
-returns-4 : tie.Need-returns-4
-returns-4 c =
     let pre = c .before .before .before .before .before .before .before .before .before .before .before .before .before .before .before .before .before .before .before .before .pre in
     λ x sp.
     let D = pre .1 x sp in
@@ -91,8 +85,27 @@ returns-4 c =
     let passes = c .before .before .before .before .before .before .before .before .before .before .before .before .before .before .before .enum-told .given .1 in
     let m₁ = c .before .before .before .before .before .before .before .before .before .before .build-tables .ensures x _ D in
     let z₁ = c .before .before .before .before .before .before .before .before .if1 .left in
+    let m₂ = c .before .before .analyze-block .ensures (x .block) _ (D .block) in
+    stops-at-walk D shape passes m₁ z₁ (c .before .before .before .before .before .path-in-use .ensures .0) m₂ (c .if2 .taken)
+
+finish-requires : tie.Need-finish-requires
+finish-requires c κs =
+    let C = c .before .before .before .before .before .before .before .before .before .before .before .before .before .before .before .before .before .before .before .before .before .before .pre .0 in
+    let g = given-at C (c .before .before .before .before .before .before .before .before .before .before .before .before .before .before .before .before .before .before .before .before .before .before .pre .1 (C .contract) (C .spells)) in
+    let m₂ = c .before .before .before .before .analyze-block .ensures _ _ (g .declared .block) in
+    (m₂ .ready (c .before .before .if2 .left), m₂ .full)
+
+returns-4 : tie.Need-returns-4
+returns-4 c =
+    let pre = c .before .before .before .before .before .before .before .before .before .before .before .before .before .before .before .before .before .before .before .before .before .before .before .pre in
+    λ x sp.
+    let D = pre .1 x sp in
+    let shape = c .before .before .before .before .before .before .before .before .before .before .before .before .before .before .before .before .before .before .before .before .check-shape .ensures _ x _ D in
+    let passes = c .before .before .before .before .before .before .before .before .before .before .before .before .before .before .before .before .before .before .enum-told .given .1 in
+    let m₁ = c .before .before .before .before .before .before .before .before .before .before .before .before .before .build-tables .ensures x _ D in
+    let z₁ = c .before .before .before .before .before .before .before .before .before .before .before .if1 .left in
     let m₂ = c .before .before .before .before .before .analyze-block .ensures (x .block) _ (D .block) in
-    ends D shape passes m₁ z₁ m₂ (c .before .before .before .if2 .left) (c .finish .ensures)
+    ends D shape passes m₁ z₁ (c .before .before .before .before .before .before .before .before .path-in-use .ensures .0) m₂ (c .before .before .before .if2 .left) (c .finish .ensures)
 
 pub analyze-spec : {M : Type 1} → statement M
 analyze-spec =
@@ -107,6 +120,8 @@ analyze-spec =
     build-tables-requires
     element-copy-out-if1
     returns-2
+    array-copy-out-path-in-use
+    path-in-use-requires
     analyze-block-requires
     element-copy-out-if2
     returns-3

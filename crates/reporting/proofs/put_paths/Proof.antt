@@ -13,49 +13,58 @@ use Rattle.reporting.proofs.put_paths.Statement.{statement}
 use Rattle.reporting.proofs.put_paths.Tie as tie
 
 abbrev Inv-loop : tie.InvT-loop
-Inv-loop listing table d rows taken output₀ writing at count next₀ p₀ output next p = (p ≤ d .count) × Putting writing output₀ at (pathLines 0 (tablesOf listing table d rows taken)) (pathsLeft listing table d rows taken p) (p * pathBound) output next
+Inv-loop listing table d taken output₀ writing at rows count next₀ p₀ output next p = (p ≤ d .count) × Putting writing output₀ at (pathLines 0 (tablesOf listing table d rows taken)) (pathsLeft listing table d rows taken p) (p * pathBound) output next
 
 abbrev μ-loop : tie.MeasureT-loop
-μ-loop listing table d rows taken output₀ writing at count next₀ p₀ output next p = d .count - p
+μ-loop listing table d taken output₀ writing at rows count next₀ p₀ output next p = d .count - p
 
 loop-holds : tie.Need-loop-holds Inv-loop μ-loop
 loop-holds c =
     let a = c .before .before .before .args in
-    (omega arith, putting-none (paths-all (a .listing .now) (a .table .now) (a .d) (a .rows) (a .taken .now)))
+    (omega arith, putting-none (paths-all (a .listing .now) (a .table .now) (a .d) (a .t4) (a .taken .now)))
 
 cast-path-at : tie.Need-cast-path-at Inv-loop μ-loop
 cast-path-at c = omega arith
 
+mul-path-at : tie.Need-mul-path-at Inv-loop μ-loop
+mul-path-at c = omega (arith, c .before .before .before .before .before .pre .0 .few)
+
+array-copy-out-path-at : tie.Need-array-copy-out-path-at Inv-loop μ-loop
+array-copy-out-path-at c = omega (arith, c .before .before .before .before .before .pre .0 .few)
+
+cast-path-at-2 : tie.Need-cast-path-at-2 Inv-loop μ-loop
+cast-path-at-2 c = omega arith
+
 path-at-requires : tie.Need-path-at-requires Inv-loop μ-loop
-path-at-requires c κs = omega (arith, c .before .before .before .before .before .pre .0 .few)
+path-at-requires c κs = omega (arith, c .before .before .before .before .before .before .pre .0 .few)
 
 put-path-requires : tie.Need-put-path-requires Inv-loop μ-loop
 put-path-requires c κs =
-    let a = c .before .before .before .before .before .before .before .args in
-    let pre = c .before .before .before .before .before .before .before .pre in
-    let l = c .before .before .before .loop in
-    let inside = c .before .before .loop-test .taken in
+    let a = c .before .before .before .before .before .before .before .before .args in
+    let pre = c .before .before .before .before .before .before .before .before .pre in
+    let l = c .before .before .before .before .loop in
+    let inside = c .before .before .before .loop-test .taken in
     let few = pre .0 .few in
     let is = sym (c .before .path-at .ensures) in
-    let later = pathsLeft (a .listing .now) (a .table .now) (a .d) (a .rows) (a .taken .now) (l .p + 1) in
-    let e = paths-next (a .listing .now) (a .table .now) (a .d) (a .rows) (a .taken .now) (l .p) inside ∙ ap (λ q. pathLine (l .p) (tableOf (a .listing .now) (a .table .now) q) ++ later) is in
+    let later = pathsLeft (a .listing .now) (a .table .now) (a .d) (a .t4) (a .taken .now) (l .p + 1) in
+    let e = paths-next (a .listing .now) (a .table .now) (a .d) (a .t4) (a .taken .now) (l .p) inside ∙ ap (λ q. pathLine (l .p) (tableOf (a .listing .now) (a .table .now) q) ++ later) is in
     (subst (WellFormed (a .listing .now) (a .table .now)) is (pre .0 .paths (l .p) inside .formed), pre .1, putting-room (l .inv .1) _ later e {total = pathsBound} (omega arith) (pre .2))
 
 add-p : tie.Need-add-p Inv-loop μ-loop
-add-p c = omega (arith, c .before .before .before .before .before .before .before .before .before .before .pre .0 .few)
+add-p c = omega (arith, c .before .before .before .before .before .before .before .before .before .before .before .pre .0 .few)
 
 loop-less : tie.Need-loop-less Inv-loop μ-loop
 loop-less c = omega arith
 
 loop-again : tie.Need-loop-again Inv-loop μ-loop
 loop-again c =
-    let a = c .before .before .before .before .before .before .before .before .before .before .args in
-    let pre = c .before .before .before .before .before .before .before .before .before .before .pre in
-    let l = c .before .before .before .before .before .before .loop in
-    let inside = c .before .before .before .before .before .loop-test .taken in
+    let a = c .before .before .before .before .before .before .before .before .before .before .before .args in
+    let pre = c .before .before .before .before .before .before .before .before .before .before .before .pre in
+    let l = c .before .before .before .before .before .before .before .loop in
+    let inside = c .before .before .before .before .before .before .loop-test .taken in
     let is = sym (c .before .before .before .before .path-at .ensures) in
-    let later = pathsLeft (a .listing .now) (a .table .now) (a .d) (a .rows) (a .taken .now) (l .p + 1) in
-    let e = paths-next (a .listing .now) (a .table .now) (a .d) (a .rows) (a .taken .now) (l .p) inside ∙ ap (λ q. pathLine (l .p) (tableOf (a .listing .now) (a .table .now) q) ++ later) is in
+    let later = pathsLeft (a .listing .now) (a .table .now) (a .d) (a .t4) (a .taken .now) (l .p + 1) in
+    let e = paths-next (a .listing .now) (a .table .now) (a .d) (a .t4) (a .taken .now) (l .p) inside ∙ ap (λ q. pathLine (l .p) (tableOf (a .listing .now) (a .table .now) q) ++ later) is in
     (omega arith, putting-more (l .inv .1) _ later e (omega arith) (c .before .before .put-path .ensures))
 
 same-length : tie.Need-same-length Inv-loop μ-loop
@@ -67,7 +76,7 @@ returns c =
     let few = c .before .before .before .before .before .pre .0 .few in
     let l = c .before .loop in
     let after = c .loop-test .left in
-    putting-end (l .inv .1) (paths-none (a .listing .now) (a .table .now) (a .d) (a .rows) (a .taken .now) (l .p) (omega arith)) (omega arith)
+    putting-end (l .inv .1) (paths-none (a .listing .now) (a .table .now) (a .d) (a .t4) (a .taken .now) (l .p) (omega arith)) (omega arith)
 
 pub put-paths-spec : {M : Type 1} → statement M
 put-paths-spec =
@@ -77,6 +86,9 @@ put-paths-spec =
     μ-loop
     loop-holds
     cast-path-at
+    mul-path-at
+    array-copy-out-path-at
+    cast-path-at-2
     path-at-requires
     put-path-requires
     add-p

@@ -1,9 +1,9 @@
-use Prim.Native.Nat.{_-_, _≤_}
+use Prim.Native.Nat.{_+_, _-_, _≤_, _<_}
 use native.Mathlib.Omega.{arith}
 use mathlib.Core.Path.{sym, _∙_}
 use borrow.Author.Needs.{needs}
 use Rattle.names.proofs.Laws.{items-end, items-named, name-inside}
-use Rattle.usage.proofs.Build.{Building, build-start, build-done, build-twice, build-more}
+use Rattle.usage.proofs.Build.{Building, build-start, build-done, build-twice, build-more, at-count}
 use Rattle.usage.proofs.build_symbol_table.Statement.{statement}
 use Rattle.usage.proofs.build_symbol_table.Tie as tie
 
@@ -53,11 +53,24 @@ returns c =
 enum-told-2 : tie.Need-enum-told-2 Inv-loop μ-loop
 enum-told-2 c = search needs
 
-cast-add-item : tie.Need-cast-add-item Inv-loop μ-loop
-cast-add-item c = let st = c .before .before .before .before .before .before .before .before .before .pre .0 in omega (arith, items-end (c .before .before .before .before .before .before .before .before .before .args .listing .now) (c .before .before .before .before .before .before .before .before .before .args .table .now) (st .spells), st .within, st .rows .few)
+cast-t18 : tie.Need-cast-t18 Inv-loop μ-loop
+cast-t18 c = let st = c .before .before .before .before .before .before .before .before .before .pre .0 in omega (arith, items-end (c .before .before .before .before .before .before .before .before .before .args .listing .now) (c .before .before .before .before .before .before .before .before .before .args .table .now) (st .spells), st .within, st .rows .few)
 
-add-item-requires : tie.Need-add-item-requires Inv-loop μ-loop
-add-item-requires c κs = omega (arith, c .before .before .before .before .before .loop .inv .1 .entries, c .before .before .before .before .loop-test .taken, c .before .before .before .before .before .before .before .before .before .pre .1)
+cast-t20 : tie.Need-cast-t20 Inv-loop μ-loop
+cast-t20 c = omega arith
+
+-- there is room for one more
+below : (c : tie.At-match-keys2 Inv-loop μ-loop) → c .before .before .before .before .loop .k < 32
+below c = omega (arith, c .before .before .before .loop-test .taken, c .before .before .before .before .before .before .before .before .pre .1)
+
+mul-t21 : tie.Need-mul-t21 Inv-loop μ-loop
+mul-t21 c = omega (arith, below (c .before))
+
+element-set-from-path : tie.Need-element-set-from-path Inv-loop μ-loop
+element-set-from-path c = below (c .before)
+
+add-path : tie.Need-add-path Inv-loop μ-loop
+add-path c = omega arith
 
 add-k : tie.Need-add-k Inv-loop μ-loop
 add-k c = omega arith
@@ -67,8 +80,11 @@ loop-less c = omega arith
 
 loop-again : tie.Need-loop-again Inv-loop μ-loop
 loop-again c =
-    let it = c .before .before .before .before .item-at in
-    (omega arith, rw (c .add-item .ensures) (build-more (c .before .before .before .before .before .before .loop .inv .1) (c .before .before .before .before .before .loop-test .taken) (it .result) (it .ensures) (sym (c .before .enum-told2 .given .1) ∙ c .before .before .before .find-place .ensures) (c .before .before .before .before .before .before .before .before .before .before .pre .1) (items-named (c .before .before .before .before .before .before .before .before .before .before .args .listing .now) (c .before .before .before .before .before .before .before .before .before .before .args .table .now) (c .before .before .before .before .before .before .before .before .before .before .pre .0) (c .before .before .before .before .before .before .before .before .before .before .args .count - 1 - c .before .before .before .before .before .before .loop .k) (omega arith))))
+    let b = c .before .before .before .before .before .before .before .before .before in
+    let l = c .before .before .before .before .before .loop in
+    let it = c .before .before .before .item-at in
+    let more = build-more (l .inv .1) (c .before .before .before .before .loop-test .taken) (it .result) (it .ensures) (sym (c .enum-told2 .given .1) ∙ c .before .before .find-place .ensures) (b .pre .1) (items-named (b .args .listing .now) (b .args .table .now) (b .pre .0) (b .args .count - 1 - l .k) (omega arith)) in
+    (omega arith, at-count (l .path) (b .args .first + (b .args .count - 1 - l .k)) (l .inv .1 .entries) more)
 
 add-pass : tie.Need-add-pass Inv-loop μ-loop
 add-pass c = let st = c .before .before .before .before .before .pre .0 in omega (arith, items-end (c .before .before .before .before .before .args .listing .now) (c .before .before .before .before .before .args .table .now) (st .spells), st .within, st .rows .few)
@@ -97,8 +113,11 @@ build-symbol-table-spec =
     refuse-requires
     returns
     enum-told-2
-    cast-add-item
-    add-item-requires
+    cast-t18
+    cast-t20
+    mul-t21
+    element-set-from-path
+    add-path
     add-k
     loop-less
     loop-again

@@ -1,0 +1,735 @@
+use Prim.Native.Nat.{ℕ, suc, _-_, _%_, _≤_, _<_}
+use native.Mathlib.Nat.{sub-zero}
+use native.Mathlib.Numerals.{add-one}
+use native.Mathlib.Omega.{arith}
+use mathlib.Core.Bool.{true}
+use mathlib.Core.List.{[]}
+use mathlib.Core.Path.{_≡_, refl, sym, ap, subst, _∙_}
+use borrow.Author.Needs.{needs}
+use borrow.Author.Tests.{not-true, not-false}
+use lib.ListN.{length}
+use Rattle.ast.specs.Tree.{Block}
+use Rattle.listing.specs.declared.Line.{Line}
+use Rattle.listing.specs.declared.StatementLine.{StatementLine}
+use Rattle.rows.specs.Rows.{lineIn}
+use Rattle.reader.specs.Spells.{SpellsBlock}
+use Rattle.reader.proofs.Agree.{expression-on, statement-on, block-on}
+use Rattle.nodes.specs.Stands.{BlockAt}
+use Rattle.nodes.proofs.Laws.{below, statement-is, block-is, statement-holds, block-holds}
+use Rattle.rules.specs.Result.{ok}
+use Rattle.rules.specs.Walk.{walk}
+use Rattle.usage.specs.Path.{tableOf}
+use Rattle.analyze.specs.State.{tablesWith, Ready, InUse, Told, nextIn, branchIn}
+use Rattle.analyze.proofs.State.{moved-refused, turned-says, turned-branch}
+use Rattle.analyze.proofs.Statements.{moved-as, moved-stop, moved-on, moved-end, statement-below, at-next, expression-below, Going, first, head-within, going-err, going-on, going-as, going-end, if-parts, if-holds, conditioned, block-stops, if-only, else-parts}
+use Rattle.analyze.proofs.Walking.{read-here, read-next, put-back, put-nowhere, in-use, tables-same, else-stops, else-passes, crossed-within}
+use borrow.Fn.Kinds.{In}
+use borrow.Fn.PlainCycle.{Measures, is, falls, and}
+use Rattle.analyze.proofs.walk.analyze_block.Reads as analyze-block
+use Rattle.analyze.proofs.walk.analyze_block.Kinds as analyze-block-kinds
+use Rattle.analyze.proofs.walk.+analyze_block+analyze_else+analyze_if.Lts-analyze_block as analyze-block-lts
+use Rattle.analyze.proofs.walk.analyze_else.Reads as analyze-else
+use Rattle.analyze.proofs.walk.analyze_else.Kinds as analyze-else-kinds
+use Rattle.analyze.proofs.walk.+analyze_block+analyze_else+analyze_if.Lts-analyze_else as analyze-else-lts
+use Rattle.analyze.proofs.walk.analyze_if.Reads as analyze-if
+use Rattle.analyze.proofs.walk.analyze_if.Kinds as analyze-if-kinds
+use Rattle.analyze.proofs.walk.+analyze_block+analyze_else+analyze_if.Lts-analyze_if as analyze-if-lts
+use Rattle.analyze.proofs.walk.analyze_statement.Reads as analyze-statement-reads
+use Rattle.analyze.proofs.walk.cross.Reads as cross-reads
+use Rattle.analyze.proofs.walk.examine_at.Reads as examine-at-reads
+use Rattle.analyze.proofs.walk.path_in_use.Reads as path-in-use-reads
+use Rattle.analyze.proofs.walk.put_branch.Reads as put-branch-reads
+use Rattle.analyze.proofs.walk.put_pass.Reads as put-pass-reads
+use Rattle.analyze.proofs.walk.refuse.Reads as refuse-reads
+use Rattle.nodes.proofs.block_at.Reads as block-at-reads
+use Rattle.analyze.proofs.walk.+analyze_block+analyze_else+analyze_if.{statement}
+use Rattle.analyze.proofs.walk.+analyze_block+analyze_else+analyze_if.Tie.{close}
+
+abbrev μ-analyze-block : Measures 4 analyze-block-kinds.ps ℕ
+μ-analyze-block κs a = length (a .1 .0 .now) - a .1 .1 .1 .0
+
+-- the else-block stands at the next row, and is walked at the same row
+abbrev μ-analyze-else : Measures 4 analyze-else-kinds.ps ℕ
+μ-analyze-else κs a = suc (length (a .1 .0 .now) - nextIn (a .1 .1 .1 .1 .1 .1 .1 .0 .now))
+
+abbrev μ-analyze-if : Measures 4 analyze-if-kinds.ps ℕ
+μ-analyze-if κs a = length (a .1 .0 .now) - a .1 .1 .1 .1 .1 .0
+
+abbrev analyze-block-at : ℕ → In 4 analyze-block-kinds.ps
+analyze-block-at t =
+    and 4 analyze-block-kinds.ps (is 4 analyze-block-kinds.ps μ-analyze-block t) analyze-block.Pre
+
+abbrev analyze-block-below : ℕ → In 4 analyze-block-kinds.ps
+analyze-block-below t =
+    and
+    4
+    analyze-block-kinds.ps
+    (falls 4 analyze-block-kinds.ps _<_ μ-analyze-block t)
+    analyze-block.Pre
+
+abbrev analyze-else-at : ℕ → In 4 analyze-else-kinds.ps
+analyze-else-at t =
+    and 4 analyze-else-kinds.ps (is 4 analyze-else-kinds.ps μ-analyze-else t) analyze-else.Pre
+
+abbrev analyze-else-below : ℕ → In 4 analyze-else-kinds.ps
+analyze-else-below t =
+    and
+    4
+    analyze-else-kinds.ps
+    (falls 4 analyze-else-kinds.ps _<_ μ-analyze-else t)
+    analyze-else.Pre
+
+abbrev analyze-if-at : ℕ → In 4 analyze-if-kinds.ps
+analyze-if-at t =
+    and 4 analyze-if-kinds.ps (is 4 analyze-if-kinds.ps μ-analyze-if t) analyze-if.Pre
+
+abbrev analyze-if-below : ℕ → In 4 analyze-if-kinds.ps
+analyze-if-below t =
+    and 4 analyze-if-kinds.ps (falls 4 analyze-if-kinds.ps _<_ μ-analyze-if t) analyze-if.Pre
+
+abbrev analyze-block-calls : ℕ → analyze-block-lts.Claims
+analyze-block-calls t = (
+  block-at-reads.Asked,
+  block-at-reads.Learnt,
+  analyze-statement-reads.Asked,
+  analyze-statement-reads.Learnt,
+  refuse-reads.Asked,
+  refuse-reads.Learnt,
+  examine-at-reads.Asked,
+  examine-at-reads.Learnt,
+  analyze-if-below t,
+  analyze-if.Post,
+  path-in-use-reads.Asked,
+  path-in-use-reads.Learnt,
+  put-pass-reads.Asked,
+  put-pass-reads.Learnt,
+)
+
+abbrev analyze-else-calls : ℕ → analyze-else-lts.Claims
+analyze-else-calls t = (
+  path-in-use-reads.Asked,
+  path-in-use-reads.Learnt,
+  cross-reads.Asked,
+  cross-reads.Learnt,
+  refuse-reads.Asked,
+  refuse-reads.Learnt,
+  put-branch-reads.Asked,
+  put-branch-reads.Learnt,
+  analyze-block-below t,
+  analyze-block.Post,
+)
+
+abbrev analyze-if-calls : ℕ → analyze-if-lts.Claims
+analyze-if-calls t = (
+  examine-at-reads.Asked,
+  examine-at-reads.Learnt,
+  refuse-reads.Asked,
+  refuse-reads.Learnt,
+  analyze-block-below t,
+  analyze-block.Post,
+  analyze-else-below t,
+  analyze-else.Post,
+)
+
+abbrev analyze-block-Inv-loop : analyze-block-lts.InvT-loop
+analyze-block-Inv-loop listing table d i path₀ taken₀ out₀ rows₀ count next₀ k₀ path taken out rows next k =
+    (k ≤ count) × Ready listing table d rows taken × (length out ≡ 7) × (i < next) × InUse listing table d (branchIn out) path × ((b : Block) (j : ℕ) → SpellsBlock (lineIn table) listing i b j → Going (lineIn table) listing (d .target) (count - k) next j (walk b (d .target) (tablesWith listing table d rows₀ taken₀ (branchIn out₀) path₀) (branchIn out₀)) (tablesWith listing table d rows taken (branchIn out) path) (branchIn out))
+
+abbrev analyze-block-μ-loop : analyze-block-lts.MeasureT-loop
+analyze-block-μ-loop listing table d i path₀ taken₀ out₀ rows₀ count next₀ k₀ path taken out rows next k = count - k
+
+analyze-block-block-at-requires : (t : ℕ) → analyze-block-lts.Need-block-at-requires (analyze-block-calls t) (analyze-block-at t) analyze-block.Post analyze-block-Inv-loop analyze-block-μ-loop
+analyze-block-block-at-requires t c κs = block-holds (c .before .before .pre .1 .0)
+
+analyze-block-add-next : (t : ℕ) → analyze-block-lts.Need-add-next (analyze-block-calls t) (analyze-block-at t) analyze-block.Post analyze-block-Inv-loop analyze-block-μ-loop
+analyze-block-add-next t c =
+    let st = c .before .before .before .pre .1 .0 in
+    omega (arith, block-on _ _ (st .spells), st .within, st .rows .few)
+
+analyze-block-loop-holds : (t : ℕ) → analyze-block-lts.Need-loop-holds (analyze-block-calls t) (analyze-block-at t) analyze-block.Post analyze-block-Inv-loop analyze-block-μ-loop
+analyze-block-loop-holds t c =
+    let pre = c .before .before .before .pre .1 in
+    (omega arith, pre .1, pre .2, omega arith, pre .3, λ b j sp. record { block = b; spells = rw (add-one, sub-zero) (block-is sp (c .block-at .ensures)); same = refl })
+
+analyze-block-add-k : (t : ℕ) → analyze-block-lts.Need-add-k (analyze-block-calls t) (analyze-block-at t) analyze-block.Post analyze-block-Inv-loop analyze-block-μ-loop
+analyze-block-add-k t c = omega (arith, c .before .before .block-at .ok)
+
+analyze-block-analyze-statement-requires : (t : ℕ) → analyze-block-lts.Need-analyze-statement-requires (analyze-block-calls t) (analyze-block-at t) analyze-block.Post analyze-block-Inv-loop analyze-block-μ-loop
+analyze-block-analyze-statement-requires t c κs =
+    let st = c .before .before .before .before .before .pre .1 .0 in
+    let l = c .before .loop in
+    let more = c .loop-test .taken in
+    let h = l .inv .5 (st .tree) (st .next) (st .spells) in
+    let f = first h more in
+    (_, statement-below st (f .spells) (head-within h more))
+
+analyze-block-enum-known-step : (t : ℕ) → analyze-block-lts.Need-enum-known-step (analyze-block-calls t) (analyze-block-at t) analyze-block.Post analyze-block-Inv-loop analyze-block-μ-loop
+analyze-block-enum-known-step t c = search needs
+
+analyze-block-loop-less : (t : ℕ) → analyze-block-lts.Need-loop-less (analyze-block-calls t) (analyze-block-at t) analyze-block.Post analyze-block-Inv-loop analyze-block-μ-loop
+analyze-block-loop-less t c = omega arith
+
+analyze-block-loop-again : (t : ℕ) → analyze-block-lts.Need-loop-again (analyze-block-calls t) (analyze-block-at t) analyze-block.Post analyze-block-Inv-loop analyze-block-μ-loop
+analyze-block-loop-again t c =
+    let a = c .before .before .before .before .before .before .before .before .before .args in
+    let st = c .before .before .before .before .before .before .before .before .before .pre .1 .0 in
+    let l = c .before .before .before .before .before .loop in
+    let more = c .before .before .before .before .loop-test .taken in
+    let h = l .inv .5 (st .tree) (st .next) (st .spells) in
+    let f = first h more in
+    let on = subst (Told (a .listing .now) (a .table .now) (f .head) (l .next) (f .mid)) (c .before .step .given .1) (c .before .before .before .analyze-statement .ensures _ (f .head) (f .mid) (f .spells)) in (
+      omega arith,
+      l .inv .1,
+      l .inv .2,
+      omega (arith, on .0, statement-on _ _ (f .spells)),
+      l .inv .4,
+      λ b j sp.
+          let h′ = l .inv .5 b j sp in
+          let f′ = first h′ more in
+          let on′ = subst (Told (a .listing .now) (a .table .now) (f′ .head) (l .next) (f′ .mid)) (c .before .step .given .1) (c .before .before .before .analyze-statement .ensures _ (f′ .head) (f′ .mid) (f′ .spells)) in
+          going-on h′ more _ (on′ .1 _ _ _) (on′ .0),
+    )
+
+analyze-block-enum-known-step-2 : (t : ℕ) → analyze-block-lts.Need-enum-known-step-2 (analyze-block-calls t) (analyze-block-at t) analyze-block.Post analyze-block-Inv-loop analyze-block-μ-loop
+analyze-block-enum-known-step-2 t c = search needs
+
+analyze-block-refuse-requires : (t : ℕ) → analyze-block-lts.Need-refuse-requires (analyze-block-calls t) (analyze-block-at t) analyze-block.Post analyze-block-Inv-loop analyze-block-μ-loop
+analyze-block-refuse-requires t c κs =
+    let l = c .before .before .before .before .before .before .before .loop in
+    (l .inv .1 .taken-full, l .inv .2)
+
+analyze-block-returns : (t : ℕ) → analyze-block-lts.Need-returns (analyze-block-calls t) (analyze-block-at t) analyze-block.Post analyze-block-Inv-loop analyze-block-μ-loop
+analyze-block-returns t c =
+    let a = c .before .before .before .before .before .before .before .before .before .before .before .before .args in
+    let l = c .before .before .before .before .before .before .before .before .loop in
+    let more = c .before .before .before .before .before .before .before .loop-test .taken in
+    λ b j sp.
+    let h = l .inv .5 b j sp in
+    let f = first h more in
+    let no = subst (Told (a .listing .now) (a .table .now) (f .head) (l .next) (f .mid)) (c .before .before .before .before .step2 .given .1) (c .before .before .before .before .before .before .analyze-statement .ensures _ (f .head) (f .mid) (f .spells)) in
+    moved-refused (c .refuse .ensures) (going-err h more _ (no _ _ _))
+
+analyze-block-enum-known-step-3 : (t : ℕ) → analyze-block-lts.Need-enum-known-step-3 (analyze-block-calls t) (analyze-block-at t) analyze-block.Post analyze-block-Inv-loop analyze-block-μ-loop
+analyze-block-enum-known-step-3 t c = search needs
+
+analyze-block-element-copy-out-examine-at : (t : ℕ) → analyze-block-lts.Need-element-copy-out-examine-at (analyze-block-calls t) (analyze-block-at t) analyze-block.Post analyze-block-Inv-loop analyze-block-μ-loop
+analyze-block-element-copy-out-examine-at t c = search needs
+
+analyze-block-add-examine-at : (t : ℕ) → analyze-block-lts.Need-add-examine-at (analyze-block-calls t) (analyze-block-at t) analyze-block.Post analyze-block-Inv-loop analyze-block-μ-loop
+analyze-block-add-examine-at t c =
+    let st = c .before .before .before .before .before .before .before .before .before .before .pre .1 .0 in
+    let l = c .before .before .before .before .before .before .loop in
+    let more = c .before .before .before .before .before .loop-test .taken in
+    let h = l .inv .5 (st .tree) (st .next) (st .spells) in
+    let f = first h more in
+    omega (arith, statement-on _ _ (f .spells), head-within h more, st .within, st .rows .few)
+
+analyze-block-examine-at-requires : (t : ℕ) → analyze-block-lts.Need-examine-at-requires (analyze-block-calls t) (analyze-block-at t) analyze-block.Post analyze-block-Inv-loop analyze-block-μ-loop
+analyze-block-examine-at-requires t c κs =
+    let a = c .before .before .before .before .before .before .before .before .before .before .args in
+    let st = c .before .before .before .before .before .before .before .before .before .before .pre .1 .0 in
+    let l = c .before .before .before .before .before .before .loop in
+    let more = c .before .before .before .before .before .loop-test .taken in
+    let h = l .inv .5 (st .tree) (st .next) (st .spells) in
+    let f = first h more in
+    let x = subst (Told (a .listing .now) (a .table .now) (f .head) (l .next) (f .mid)) (c .before .before .step3 .given .1) (c .before .before .before .before .analyze-statement .ensures _ (f .head) (f .mid) (f .spells)) in
+    (expression-below st (x .1) (head-within h more), l .inv .4, l .inv .1 .few)
+
+analyze-block-enum-known-answer : (t : ℕ) → analyze-block-lts.Need-enum-known-answer (analyze-block-calls t) (analyze-block-at t) analyze-block.Post analyze-block-Inv-loop analyze-block-μ-loop
+analyze-block-enum-known-answer t c = search needs
+
+analyze-block-refuse-requires-2 : (t : ℕ) → analyze-block-lts.Need-refuse-requires-2 (analyze-block-calls t) (analyze-block-at t) analyze-block.Post analyze-block-Inv-loop analyze-block-μ-loop
+analyze-block-refuse-requires-2 t c κs =
+    let l = c .before .before .before .before .before .before .before .before .before .before .before .before .loop in
+    (l .inv .1 .taken-full, l .inv .2)
+
+analyze-block-returns-2 : (t : ℕ) → analyze-block-lts.Need-returns-2 (analyze-block-calls t) (analyze-block-at t) analyze-block.Post analyze-block-Inv-loop analyze-block-μ-loop
+analyze-block-returns-2 t c =
+    let a = c .before .before .before .before .before .before .before .before .before .before .before .before .before .before .before .before .before .args in
+    let l = c .before .before .before .before .before .before .before .before .before .before .before .before .before .loop in
+    let more = c .before .before .before .before .before .before .before .before .before .before .before .before .loop-test .taken in
+    λ b j sp.
+    let h = l .inv .5 b j sp in
+    let f = first h more in
+    let x = subst (Told (a .listing .now) (a .table .now) (f .head) (l .next) (f .mid)) (c .before .before .before .before .before .before .before .before .before .step3 .given .1) (c .before .before .before .before .before .before .before .before .before .before .before .analyze-statement .ensures _ (f .head) (f .mid) (f .spells)) in
+    let T = c .before .before .before .before .before .before .examine-at .ensures (x .0) (f .mid) (at-next (x .1)) in
+    moved-refused (c .refuse2 .ensures) (going-err h more _ (x .2 _ _ _ ∙ T .stops _ (c .before .before .before .before .answer .given .1) (l .rows) (l .taken)))
+
+analyze-block-enum-known-answer-2 : (t : ℕ) → analyze-block-lts.Need-enum-known-answer-2 (analyze-block-calls t) (analyze-block-at t) analyze-block.Post analyze-block-Inv-loop analyze-block-μ-loop
+analyze-block-enum-known-answer-2 t c = search needs
+
+analyze-block-cast-next : (t : ℕ) → analyze-block-lts.Need-cast-next (analyze-block-calls t) (analyze-block-at t) analyze-block.Post analyze-block-Inv-loop analyze-block-μ-loop
+analyze-block-cast-next t c = search needs
+
+analyze-block-loop-less-2 : (t : ℕ) → analyze-block-lts.Need-loop-less-2 (analyze-block-calls t) (analyze-block-at t) analyze-block.Post analyze-block-Inv-loop analyze-block-μ-loop
+analyze-block-loop-less-2 t c = omega arith
+
+analyze-block-loop-again-2 : (t : ℕ) → analyze-block-lts.Need-loop-again-2 (analyze-block-calls t) (analyze-block-at t) analyze-block.Post analyze-block-Inv-loop analyze-block-μ-loop
+analyze-block-loop-again-2 t c =
+    let a = c .before .before .before .before .before .before .before .before .before .before .before .before .before .before .before .args in
+    let st = c .before .before .before .before .before .before .before .before .before .before .before .before .before .before .before .pre .1 .0 in
+    let l = c .before .before .before .before .before .before .before .before .before .before .before .loop in
+    let more = c .before .before .before .before .before .before .before .before .before .before .loop-test .taken in
+    let h = l .inv .5 (st .tree) (st .next) (st .spells) in
+    let f = first h more in
+    let x = subst (Told (a .listing .now) (a .table .now) (f .head) (l .next) (f .mid)) (c .before .before .before .before .before .before .before .step3 .given .1) (c .before .before .before .before .before .before .before .before .before .analyze-statement .ensures _ (f .head) (f .mid) (f .spells)) in
+    let is = c .before .before .answer2 .given .1 in
+    let on = c .before .before .before .before .examine-at .ensures (x .0) (f .mid) (at-next (x .1)) .passes _ is in
+    let low = head-within h more in (
+      omega arith,
+      l .inv .1,
+      l .inv .2,
+      omega (arith, on .0, low, st .within, st .rows .few, statement-on _ _ (f .spells)),
+      on .1 .in-use,
+      λ b j sp.
+          let h′ = l .inv .5 b j sp in
+          let f′ = first h′ more in
+          let x′ = subst (Told (a .listing .now) (a .table .now) (f′ .head) (l .next) (f′ .mid)) (c .before .before .before .before .before .before .before .step3 .given .1) (c .before .before .before .before .before .before .before .before .before .analyze-statement .ensures _ (f′ .head) (f′ .mid) (f′ .spells)) in
+          let on′ = c .before .before .before .before .examine-at .ensures (x′ .0) (f′ .mid) (at-next (x′ .1)) .passes _ is in
+          going-on h′ more _ (x′ .2 _ _ _ ∙ on′ .1 .result (l .rows) (l .taken)) (omega (arith, on .0, on′ .0, low, st .within, st .rows .few)),
+    )
+
+analyze-block-enum-known-step-4 : (t : ℕ) → analyze-block-lts.Need-enum-known-step-4 (analyze-block-calls t) (analyze-block-at t) analyze-block.Post analyze-block-Inv-loop analyze-block-μ-loop
+analyze-block-enum-known-step-4 t c = search needs
+
+analyze-block-analyze-if-requires : (t : ℕ) → analyze-block-lts.Need-analyze-if-requires (analyze-block-calls t) (analyze-block-at t) analyze-block.Post analyze-block-Inv-loop analyze-block-μ-loop
+analyze-block-analyze-if-requires t c κs =
+    let a = c .before .before .before .before .before .before .before .before .before .before .before .args in
+    let st = c .before .before .before .before .before .before .before .before .before .before .before .pre .1 .0 in
+    let l = c .before .before .before .before .before .before .before .loop in
+    let more = c .before .before .before .before .before .before .loop-test .taken in
+    let h = l .inv .5 (st .tree) (st .next) (st .spells) in
+    let f = first h more in
+    let room = block-holds st .room in
+    (omega (arith, c .before .before .before .before .before .before .before .before .before .before .before .pre .0), (statement-below st (f .spells) (head-within h more), l .inv .1, l .inv .2, l .inv .4, subst (Told (a .listing .now) (a .table .now) (f .head) (l .next) (f .mid)) (c .before .before .before .step4 .given .1) (c .before .before .before .before .before .analyze-statement .ensures _ (f .head) (f .mid) (f .spells))))
+
+analyze-block-element-copy-out-if1 : (t : ℕ) → analyze-block-lts.Need-element-copy-out-if1 (analyze-block-calls t) (analyze-block-at t) analyze-block.Post analyze-block-Inv-loop analyze-block-μ-loop
+analyze-block-element-copy-out-if1 t c = search needs
+
+analyze-block-returns-3 : (t : ℕ) → analyze-block-lts.Need-returns-3 (analyze-block-calls t) (analyze-block-at t) analyze-block.Post analyze-block-Inv-loop analyze-block-μ-loop
+analyze-block-returns-3 t c =
+    let l = c .before .before .before .before .before .before .before .before .before .before .loop in
+    let more = c .before .before .before .before .before .before .before .before .before .loop-test .taken in
+    λ b j sp.
+    let h = l .inv .5 b j sp in
+    let f = first h more in
+    moved-stop (c .before .before .analyze-if .ensures (f .head) (f .mid) (f .spells)) (c .if1 .taken) _ j (going-err h more)
+
+analyze-block-element-copy-out-path-in-use :
+    (t : ℕ) → analyze-block-lts.Need-element-copy-out-path-in-use (analyze-block-calls t) (analyze-block-at t) analyze-block.Post analyze-block-Inv-loop analyze-block-μ-loop
+analyze-block-element-copy-out-path-in-use t c = search needs
+
+analyze-block-cast-path-in-use : (t : ℕ) → analyze-block-lts.Need-cast-path-in-use (analyze-block-calls t) (analyze-block-at t) analyze-block.Post analyze-block-Inv-loop analyze-block-μ-loop
+analyze-block-cast-path-in-use t c = search needs
+
+analyze-block-mul-path-in-use : (t : ℕ) → analyze-block-lts.Need-mul-path-in-use (analyze-block-calls t) (analyze-block-at t) analyze-block.Post analyze-block-Inv-loop analyze-block-μ-loop
+analyze-block-mul-path-in-use t c = search needs
+
+analyze-block-array-copy-out-path-in-use :
+    (t : ℕ) → analyze-block-lts.Need-array-copy-out-path-in-use (analyze-block-calls t) (analyze-block-at t) analyze-block.Post analyze-block-Inv-loop analyze-block-μ-loop
+analyze-block-array-copy-out-path-in-use t c = search needs
+
+analyze-block-element-copy-out-path-in-use-2 :
+    (t : ℕ) → analyze-block-lts.Need-element-copy-out-path-in-use-2 (analyze-block-calls t) (analyze-block-at t) analyze-block.Post analyze-block-Inv-loop analyze-block-μ-loop
+analyze-block-element-copy-out-path-in-use-2 t c = search needs
+
+analyze-block-path-in-use-requires : (t : ℕ) → analyze-block-lts.Need-path-in-use-requires (analyze-block-calls t) (analyze-block-at t) analyze-block.Post analyze-block-Inv-loop analyze-block-μ-loop
+analyze-block-path-in-use-requires t c κs = c .before .before .before .before .before .before .before .before .before .before .before .before .before .before .loop .inv .1 .few
+
+analyze-block-element-copy-out-next : (t : ℕ) → analyze-block-lts.Need-element-copy-out-next (analyze-block-calls t) (analyze-block-at t) analyze-block.Post analyze-block-Inv-loop analyze-block-μ-loop
+analyze-block-element-copy-out-next t c = search needs
+
+analyze-block-loop-less-3 : (t : ℕ) → analyze-block-lts.Need-loop-less-3 (analyze-block-calls t) (analyze-block-at t) analyze-block.Post analyze-block-Inv-loop analyze-block-μ-loop
+analyze-block-loop-less-3 t c = omega arith
+
+analyze-block-loop-again-3 : (t : ℕ) → analyze-block-lts.Need-loop-again-3 (analyze-block-calls t) (analyze-block-at t) analyze-block.Post analyze-block-Inv-loop analyze-block-μ-loop
+analyze-block-loop-again-3 t c =
+    let a = c .before .before .before .before .before .before .before .before .before .before .before .before .before .before .before .before .before .before .before .before .args in
+    let st = c .before .before .before .before .before .before .before .before .before .before .before .before .before .before .before .before .before .before .before .before .pre .1 .0 in
+    let l = c .before .before .before .before .before .before .before .before .before .before .before .before .before .before .before .before .loop in
+    let more = c .before .before .before .before .before .before .before .before .before .before .before .before .before .before .before .loop-test .taken in
+    let h = l .inv .5 (st .tree) (st .next) (st .spells) in
+    let f = first h more in
+    let z = c .before .before .before .before .before .before .if1 .left in
+    let m = c .before .before .before .before .before .before .before .before .analyze-if .ensures (f .head) (f .mid) (f .spells) in
+    let r = m .ready z in
+    let load = read-here (a .d) (c .before .before .before .before .before .before .before .before .analyze-if .result) (c .before .before .before .before .before .before .before .before .analyze-if .last .1 .1 .1 .1 .1 .1 .1 .1 .0) (branchIn (c .before .before .before .before .before .before .before .before .analyze-if .last .1 .1 .1 .1 .1 .1 .1 .1 .1 .0)) (r .few) (c .before .path-in-use .ensures .0) in (
+      omega arith,
+      r,
+      m .full,
+      omega (arith, m .next z, statement-on _ _ (f .spells)),
+      in-use _ _ (a .d) _ _ _ r load,
+      λ b j sp.
+          let h = l .inv .5 b j sp in
+          let f = first h more in
+          let n = c .before .before .before .before .before .before .before .before .analyze-if .ensures (f .head) (f .mid) (f .spells) in
+          going-as (going-on h more _ (moved-on n z) (n .next z)) (tables-same _ _ (a .d) _ _ _ r load),
+    )
+
+analyze-block-element-copy-out-branch : (t : ℕ) → analyze-block-lts.Need-element-copy-out-branch (analyze-block-calls t) (analyze-block-at t) analyze-block.Post analyze-block-Inv-loop analyze-block-μ-loop
+analyze-block-element-copy-out-branch t c = search needs
+
+analyze-block-put-pass-requires : (t : ℕ) → analyze-block-lts.Need-put-pass-requires (analyze-block-calls t) (analyze-block-at t) analyze-block.Post analyze-block-Inv-loop analyze-block-μ-loop
+analyze-block-put-pass-requires t c κs = search needs
+
+analyze-block-cast-rows : (t : ℕ) → analyze-block-lts.Need-cast-rows (analyze-block-calls t) (analyze-block-at t) analyze-block.Post analyze-block-Inv-loop analyze-block-μ-loop
+analyze-block-cast-rows t c = search needs
+
+analyze-block-mul-rows : (t : ℕ) → analyze-block-lts.Need-mul-rows (analyze-block-calls t) (analyze-block-at t) analyze-block.Post analyze-block-Inv-loop analyze-block-μ-loop
+analyze-block-mul-rows t c = search needs
+
+analyze-block-array-set-from-rows : (t : ℕ) → analyze-block-lts.Need-array-set-from-rows (analyze-block-calls t) (analyze-block-at t) analyze-block.Post analyze-block-Inv-loop analyze-block-μ-loop
+analyze-block-array-set-from-rows t c = search needs
+
+analyze-block-cast-taken : (t : ℕ) → analyze-block-lts.Need-cast-taken (analyze-block-calls t) (analyze-block-at t) analyze-block.Post analyze-block-Inv-loop analyze-block-μ-loop
+analyze-block-cast-taken t c = search needs
+
+analyze-block-mul-taken : (t : ℕ) → analyze-block-lts.Need-mul-taken (analyze-block-calls t) (analyze-block-at t) analyze-block.Post analyze-block-Inv-loop analyze-block-μ-loop
+analyze-block-mul-taken t c = search needs
+
+analyze-block-element-write-taken : (t : ℕ) → analyze-block-lts.Need-element-write-taken (analyze-block-calls t) (analyze-block-at t) analyze-block.Post analyze-block-Inv-loop analyze-block-μ-loop
+analyze-block-element-write-taken t c = search needs
+
+analyze-block-returns-4 : (t : ℕ) → analyze-block-lts.Need-returns-4 (analyze-block-calls t) (analyze-block-at t) analyze-block.Post analyze-block-Inv-loop analyze-block-μ-loop
+analyze-block-returns-4 t c =
+    let a = c .before .before .before .before .before .before .before .before .before .before .before .args in
+    let l = c .before .before .before .before .before .before .before .loop in
+    let gone = c .before .before .before .before .before .before .loop-test .left in
+    let kept = put-back _ _ (a .d) (l .rows) (l .taken) (branchIn (l .out)) (l .inv .1) (l .path) (c .before .if2 .taken) (l .inv .4) in
+    λ b j sp.
+    let e = going-end (l .inv .5 b j sp) (omega arith) in
+    moved-end (a .d) _ _ (l .out) _ (l .inv .2) (kept .ready) (e .0 ∙ ap (λ ts. ok (record { tables = ts; branch = branchIn (l .out) })) (sym (kept .tables)), e .1) (c .before .before .before .put-pass .ensures)
+
+analyze-block-returns-5 : (t : ℕ) → analyze-block-lts.Need-returns-5 (analyze-block-calls t) (analyze-block-at t) analyze-block.Post analyze-block-Inv-loop analyze-block-μ-loop
+analyze-block-returns-5 t c =
+    let a = c .before .before .before .before .before .before .before .before .before .before .args in
+    let l = c .before .before .before .before .before .before .loop in
+    let gone = c .before .before .before .before .before .loop-test .left in
+    let kept = put-nowhere _ _ (a .d) (l .rows) (l .taken) (branchIn (l .out)) (l .inv .1) (l .path) (c .if2 .left) in
+    λ b j sp.
+    let e = going-end (l .inv .5 b j sp) (omega arith) in
+    moved-end (a .d) _ _ (l .out) _ (l .inv .2) (kept .ready) (e .0 ∙ ap (λ ts. ok (record { tables = ts; branch = branchIn (l .out) })) (sym (kept .tables)), e .1) (c .before .before .put-pass .ensures)
+
+analyze-else-element-copy-out-branch : (t : ℕ) → analyze-else-lts.Need-element-copy-out-branch (analyze-else-calls t) (analyze-else-at t) analyze-else.Post
+analyze-else-element-copy-out-branch t c = search needs
+
+analyze-else-add-next : (t : ℕ) → analyze-else-lts.Need-add-next (analyze-else-calls t) (analyze-else-at t) analyze-else.Post
+analyze-else-add-next t c = search needs
+
+analyze-else-cast-path-in-use : (t : ℕ) → analyze-else-lts.Need-cast-path-in-use (analyze-else-calls t) (analyze-else-at t) analyze-else.Post
+analyze-else-cast-path-in-use t c = search needs
+
+analyze-else-mul-path-in-use : (t : ℕ) → analyze-else-lts.Need-mul-path-in-use (analyze-else-calls t) (analyze-else-at t) analyze-else.Post
+analyze-else-mul-path-in-use t c = search needs
+
+analyze-else-array-copy-out-path-in-use :
+    (t : ℕ) → analyze-else-lts.Need-array-copy-out-path-in-use (analyze-else-calls t) (analyze-else-at t) analyze-else.Post
+analyze-else-array-copy-out-path-in-use t c = search needs
+
+analyze-else-path-in-use-requires : (t : ℕ) → analyze-else-lts.Need-path-in-use-requires (analyze-else-calls t) (analyze-else-at t) analyze-else.Post
+analyze-else-path-in-use-requires t c κs = c .before .before .before .before .before .pre .1 .1 .few
+
+analyze-else-element-copy-out-cross : (t : ℕ) → analyze-else-lts.Need-element-copy-out-cross (analyze-else-calls t) (analyze-else-at t) analyze-else.Post
+analyze-else-element-copy-out-cross t c = search needs
+
+analyze-else-cross-requires : (t : ℕ) → analyze-else-lts.Need-cross-requires (analyze-else-calls t) (analyze-else-at t) analyze-else.Post
+analyze-else-cross-requires t c κs =
+    let a = c .before .before .before .before .before .before .before .args in
+    let s = a .listing .now in
+    let t = a .table .now in
+    let pre = c .before .before .before .before .before .before .before .pre .1 in
+    let n = branchIn (a .out .now) in
+    let r = pre .1 in
+    let load = read-next (a .d) (a .t6) (a .taken .now) n (r .few) (c .before .path-in-use .ensures .0) in
+    (pre .3, in-use s t (a .d) (a .t6) (a .taken .now) (suc n) r load, r .few)
+
+analyze-else-enum-known-a : (t : ℕ) → analyze-else-lts.Need-enum-known-a (analyze-else-calls t) (analyze-else-at t) analyze-else.Post
+analyze-else-enum-known-a t c = search needs
+
+analyze-else-refuse-requires : (t : ℕ) → analyze-else-lts.Need-refuse-requires (analyze-else-calls t) (analyze-else-at t) analyze-else.Post
+analyze-else-refuse-requires t c κs =
+    let pre = c .before .before .before .before .before .before .before .before .before .before .before .before .before .pre .1 in
+    (pre .1 .taken-full, pre .2)
+
+analyze-else-enum-told : (t : ℕ) → analyze-else-lts.Need-enum-told (analyze-else-calls t) (analyze-else-at t) analyze-else.Post
+analyze-else-enum-told t c = search needs
+
+analyze-else-put-branch-requires : (t : ℕ) → analyze-else-lts.Need-put-branch-requires (analyze-else-calls t) (analyze-else-at t) analyze-else.Post
+analyze-else-put-branch-requires t c κs = search needs
+
+analyze-else-element-copy-out-other : (t : ℕ) → analyze-else-lts.Need-element-copy-out-other (analyze-else-calls t) (analyze-else-at t) analyze-else.Post
+analyze-else-element-copy-out-other t c = search needs
+
+analyze-else-analyze-block-requires : (t : ℕ) → analyze-else-lts.Need-analyze-block-requires (analyze-else-calls t) (analyze-else-at t) analyze-else.Post
+analyze-else-analyze-block-requires t c κs =
+    let a = c .before .before .before .before .before .before .before .before .before .before .before .before .before .before .before .args in
+    let s = a .listing .now in
+    let t = a .table .now in
+    let pre = c .before .before .before .before .before .before .before .before .before .before .before .before .before .before .before .pre .1 in
+    let n = branchIn (a .out .now) in
+    let r = pre .1 in
+    let T = c .before .before .before .before .before .before .before .cross .ensures in
+    let is = c .before .before .before .before .before .enum-told .given .1 in
+    let within = crossed-within s t (a .d) n _ (a .loc) (tableOf s t (a .from)) _ T is in
+    let put = c .before .before .before .put-branch .ensures in
+    let says = turned-says (a .out .now) _ [] (pre .2) in
+    let on = ap nextIn put ∙ says .1 in
+    let turn : branchIn (c .before .before .before .put-branch .last .0) ≡ suc n = ap branchIn put ∙ turned-branch (a .out .now) _ (pre .2) ∙ omega (arith, within, r .few) in
+    (omega (arith, c .before .before .before .before .before .before .before .before .before .before .before .before .before .before .before .pre .0, on), (subst (BlockAt s t) (sym on) (pre .0), r, ap length put ∙ says .2, subst (λ k. InUse s t (a .d) k (c .before .before .before .before .before .before .before .cross .result .path)) (sym turn) (T .passes _ is .1 .in-use)))
+
+analyze-else-returns : (t : ℕ) → analyze-else-lts.Need-returns (analyze-else-calls t) (analyze-else-at t) analyze-else.Post
+analyze-else-returns t c =
+    let a = c .before .before .before .before .before .before .before .before .before .before .before .before .before .before .args in
+    let s = a .listing .now in
+    let t = a .table .now in
+    let pre = c .before .before .before .before .before .before .before .before .before .before .before .before .before .before .pre .1 in
+    let n = branchIn (a .out .now) in
+    let r = pre .1 in
+    let load = read-next (a .d) (a .t6) (a .taken .now) n (r .few) (c .before .before .before .before .before .before .before .before .path-in-use .ensures .0) in
+    λ b j sp. else-stops s t (a .d) n _ (a .loc) (tableOf s t (a .from)) (a .t6) (a .taken .now) r load (c .before .before .before .before .before .before .cross .result) (c .before .before .before .before .before .before .cross .ensures) b j (c .before .before .before .before .a .given .1) (c .refuse .ensures)
+
+analyze-else-returns-2 : (t : ℕ) → analyze-else-lts.Need-returns-2 (analyze-else-calls t) (analyze-else-at t) analyze-else.Post
+analyze-else-returns-2 t c =
+    let a = c .before .before .before .before .before .before .before .before .before .before .before .before .before .before .before .before .args in
+    let s = a .listing .now in
+    let t = a .table .now in
+    let pre = c .before .before .before .before .before .before .before .before .before .before .before .before .before .before .before .before .pre .1 in
+    let n = branchIn (a .out .now) in
+    let r = pre .1 in
+    let load = read-next (a .d) (a .t6) (a .taken .now) n (r .few) (c .before .before .before .before .before .before .before .before .before .before .path-in-use .ensures .0) in
+    let T = c .before .before .before .before .before .before .before .before .cross .ensures in
+    let is = c .before .before .before .before .before .before .enum-told .given .1 in
+    let within = crossed-within s t (a .d) n _ (a .loc) (tableOf s t (a .from)) _ T is in
+    let put = c .before .before .before .before .put-branch .ensures in
+    let on = ap nextIn put ∙ turned-says (a .out .now) _ [] (pre .2) .1 in
+    let turn : branchIn (c .before .before .before .before .put-branch .last .0) ≡ suc n = ap branchIn put ∙ turned-branch (a .out .now) _ (pre .2) ∙ omega (arith, within, r .few) in
+    λ b j sp. else-passes s t (a .d) n _ (a .loc) (tableOf s t (a .from)) (a .t6) (a .taken .now) r load (c .before .before .before .before .before .before .before .before .cross .result) T b j is turn (c .analyze-block .ensures b j (subst (λ k. SpellsBlock (lineIn t) s k b j) (sym on) sp))
+
+analyze-if-element-copy-out-examine-at : (t : ℕ) → analyze-if-lts.Need-element-copy-out-examine-at (analyze-if-calls t) (analyze-if-at t) analyze-if.Post
+analyze-if-element-copy-out-examine-at t c = search needs
+
+analyze-if-add-examine-at : (t : ℕ) → analyze-if-lts.Need-add-examine-at (analyze-if-calls t) (analyze-if-at t) analyze-if.Post
+analyze-if-add-examine-at t c =
+    let st = c .before .before .before .pre .1 .0 in
+    omega (arith, statement-on _ _ (st .spells), st .within, st .rows .few)
+
+analyze-if-examine-at-requires : (t : ℕ) → analyze-if-lts.Need-examine-at-requires (analyze-if-calls t) (analyze-if-at t) analyze-if.Post
+analyze-if-examine-at-requires t c κs =
+    let a = c .before .before .before .args in
+    let s = a .listing .now in
+    let t = a .table .now in
+    let pre = c .before .before .before .pre .1 in
+    let st = pre .0 in
+    let P = if-parts (lineIn t) s (a .loc) (a .has-else) (a .i) (st .tree) (st .next) (statement-is (st .spells) (pre .4)) in
+    (if-holds st P .0, pre .3, pre .1 .few)
+
+analyze-if-enum-known-a : (t : ℕ) → analyze-if-lts.Need-enum-known-a (analyze-if-calls t) (analyze-if-at t) analyze-if.Post
+analyze-if-enum-known-a t c = search needs
+
+analyze-if-refuse-requires : (t : ℕ) → analyze-if-lts.Need-refuse-requires (analyze-if-calls t) (analyze-if-at t) analyze-if.Post
+analyze-if-refuse-requires t c κs =
+    let pre = c .before .before .before .before .before .before .before .before .before .pre .1 in
+    (pre .1 .taken-full, pre .2)
+
+analyze-if-enum-known-a-2 : (t : ℕ) → analyze-if-lts.Need-enum-known-a-2 (analyze-if-calls t) (analyze-if-at t) analyze-if.Post
+analyze-if-enum-known-a-2 t c = search needs
+
+analyze-if-cast-then : (t : ℕ) → analyze-if-lts.Need-cast-then (analyze-if-calls t) (analyze-if-at t) analyze-if.Post
+analyze-if-cast-then t c = search needs
+
+analyze-if-analyze-block-requires : (t : ℕ) → analyze-if-lts.Need-analyze-block-requires (analyze-if-calls t) (analyze-if-at t) analyze-if.Post
+analyze-if-analyze-block-requires t c κs =
+    let a = c .before .before .before .before .before .before .before .before .before .before .args in
+    let s = a .listing .now in
+    let t = a .table .now in
+    let pre = c .before .before .before .before .before .before .before .before .before .before .pre .1 in
+    let st = pre .0 in
+    let P = if-parts (lineIn t) s (a .loc) (a .has-else) (a .i) (st .tree) (st .next) (statement-is (st .spells) (pre .4)) in
+    let T = c .before .before .before .before .before .before .examine-at .ensures (P .cond) (P .mid) (P .spells) in
+    let on = T .passes _ (c .before .before .before .before .a2 .given .1) in
+    let at : c .before .before .before .before .a2 .given .0 .0 % 4294967296 ≡ P .mid = omega (arith, on .0, block-on _ _ (P .inner), P .within, st .within, st .rows .few) in
+    let room = statement-holds st .room in
+    (omega (arith, c .before .before .before .before .before .before .before .before .before .before .pre .0, at, expression-on _ _ (P .spells)), (subst (BlockAt s t) (sym at) (if-holds st P .1), pre .1, pre .2, on .1 .in-use))
+
+analyze-if-element-copy-out-if1 : (t : ℕ) → analyze-if-lts.Need-element-copy-out-if1 (analyze-if-calls t) (analyze-if-at t) analyze-if.Post
+analyze-if-element-copy-out-if1 t c = search needs
+
+analyze-if-returns : (t : ℕ) → analyze-if-lts.Need-returns (analyze-if-calls t) (analyze-if-at t) analyze-if.Post
+analyze-if-returns t c =
+    let a = c .before .before .before .before .before .before .before .before .before .before .before .before .before .args in
+    let s = a .listing .now in
+    let t = a .table .now in
+    let pre = c .before .before .before .before .before .before .before .before .before .before .before .before .before .pre .1 in
+    let st = pre .0 in
+    let P₀ = if-parts (lineIn t) s (a .loc) (a .has-else) (a .i) (st .tree) (st .next) (statement-is (st .spells) (pre .4)) in
+    let on₀ = c .before .before .before .before .before .before .before .before .before .examine-at .ensures (P₀ .cond) (P₀ .mid) (P₀ .spells) .passes _ (c .before .before .before .before .before .before .before .a2 .given .1) in
+    let low : c .before .before .before .before .before .before .before .a2 .given .0 .0 < 4294967296 = omega (arith, on₀ .0, block-on _ _ (P₀ .inner), P₀ .within, st .within, st .rows .few) in
+    λ x j sp.
+    let P = if-parts (lineIn t) s (a .loc) (a .has-else) (a .i) x j (statement-is sp (pre .4)) in
+    let T = c .before .before .before .before .before .before .before .before .before .examine-at .ensures (P .cond) (P .mid) (P .spells) in
+    let on = T .passes _ (c .before .before .before .before .before .before .before .a2 .given .1) in
+    let at : c .before .before .before .before .before .before .before .a2 .given .0 .0 % 4294967296 ≡ P .mid = omega (arith, low, on .0) in
+    let C = conditioned s t (a .d) (a .loc) (P .cond) (a .rows) (a .taken .now) (branchIn (a .out .now)) (a .path) (c .before .before .before .before .before .before .before .before .before .examine-at .result .path) (on .1) in
+    let m₂ = c .before .before .analyze-block .ensures (P .block) (P .end) (subst (λ k. SpellsBlock (lineIn t) s k (P .block) (P .end)) (sym at) (P .inner)) in
+    block-stops s t (a .d) (a .rows) (a .taken .now) (branchIn (a .out .now)) (a .path) (c .before .before .before .before .before .before .before .before .before .examine-at .result .path) P C m₂ (c .if1 .taken)
+
+analyze-if-returns-2 : (t : ℕ) → analyze-if-lts.Need-returns-2 (analyze-if-calls t) (analyze-if-at t) analyze-if.Post
+analyze-if-returns-2 t c =
+    let a = c .before .before .before .before .before .before .before .before .before .before .before .before .before .before .args in
+    let s = a .listing .now in
+    let t = a .table .now in
+    let pre = c .before .before .before .before .before .before .before .before .before .before .before .before .before .before .pre .1 in
+    let st = pre .0 in
+    let P₀ = if-parts (lineIn t) s (a .loc) (a .has-else) (a .i) (st .tree) (st .next) (statement-is (st .spells) (pre .4)) in
+    let on₀ = c .before .before .before .before .before .before .before .before .before .before .examine-at .ensures (P₀ .cond) (P₀ .mid) (P₀ .spells) .passes _ (c .before .before .before .before .before .before .before .before .a2 .given .1) in
+    let low : c .before .before .before .before .before .before .before .before .a2 .given .0 .0 < 4294967296 = omega (arith, on₀ .0, block-on _ _ (P₀ .inner), P₀ .within, st .within, st .rows .few) in
+    λ x j sp.
+    let P = if-parts (lineIn t) s (a .loc) (a .has-else) (a .i) x j (statement-is sp (pre .4)) in
+    let T = c .before .before .before .before .before .before .before .before .before .before .examine-at .ensures (P .cond) (P .mid) (P .spells) in
+    let on = T .passes _ (c .before .before .before .before .before .before .before .before .a2 .given .1) in
+    let at : c .before .before .before .before .before .before .before .before .a2 .given .0 .0 % 4294967296 ≡ P .mid = omega (arith, low, on .0) in
+    let C = conditioned s t (a .d) (a .loc) (P .cond) (a .rows) (a .taken .now) (branchIn (a .out .now)) (a .path) (c .before .before .before .before .before .before .before .before .before .before .examine-at .result .path) (on .1) in
+    let m₂ = c .before .before .before .analyze-block .ensures (P .block) (P .end) (subst (λ k. SpellsBlock (lineIn t) s k (P .block) (P .end)) (sym at) (P .inner)) in
+    if-only s t (a .d) (a .rows) (a .taken .now) (branchIn (a .out .now)) (a .path) (c .before .before .before .before .before .before .before .before .before .before .examine-at .result .path) P C (not-true _ (c .if2 .taken)) m₂
+
+analyze-if-analyze-else-requires : (t : ℕ) → analyze-if-lts.Need-analyze-else-requires (analyze-if-calls t) (analyze-if-at t) analyze-if.Post
+analyze-if-analyze-else-requires t c κs =
+    let a = c .before .before .before .before .before .before .before .before .before .before .before .before .before .before .before .before .args in
+    let s = a .listing .now in
+    let t = a .table .now in
+    let pre = c .before .before .before .before .before .before .before .before .before .before .before .before .before .before .before .before .pre .1 in
+    let st = pre .0 in
+    let line = pre .4 ∙ ap (λ h. Line.Statement (StatementLine.IfStatement (a .loc) h)) (not-false _ (c .before .before .if2 .left)) in
+    let P = if-parts (lineIn t) s (a .loc) true (a .i) (st .tree) (st .next) (statement-is (st .spells) line) in
+    let T = c .before .before .before .before .before .before .before .before .before .before .before .before .examine-at .ensures (P .cond) (P .mid) (P .spells) in
+    let on = T .passes _ (c .before .before .before .before .before .before .before .before .before .before .a2 .given .1) in
+    let at : c .before .before .before .before .before .before .before .before .before .before .a2 .given .0 .0 % 4294967296 ≡ P .mid = omega (arith, on .0, block-on _ _ (P .inner), P .within, st .within, st .rows .few) in
+    let C = conditioned s t (a .d) (a .loc) (P .cond) (a .rows) (a .taken .now) (branchIn (a .out .now)) (a .path) (c .before .before .before .before .before .before .before .before .before .before .before .before .examine-at .result .path) (on .1) in
+    let m₂ = c .before .before .before .before .before .analyze-block .ensures (P .block) (P .end) (subst (λ k. SpellsBlock (lineIn t) s k (P .block) (P .end)) (sym at) (P .inner)) in
+    let z₂ = c .before .before .before .if1 .left in
+    let E = else-parts s t (a .d) (a .rows) (a .taken .now) (branchIn (a .out .now)) (a .path) (c .before .before .before .before .before .before .before .before .before .before .before .before .examine-at .result .path) P C m₂ z₂ in
+    let room = statement-holds st .room in
+    (omega (arith, c .before .before .before .before .before .before .before .before .before .before .before .before .before .before .before .before .pre .0, m₂ .next z₂, expression-on _ _ (P .spells), block-on _ _ (P .inner)), (subst (BlockAt s t) (sym (m₂ .next z₂)) (below (SpellsBlock (lineIn t) s) st (E .spells) (omega arith)), m₂ .ready z₂, m₂ .full, on .1 .in-use (C .within) .formed))
+
+analyze-if-returns-3 : (t : ℕ) → analyze-if-lts.Need-returns-3 (analyze-if-calls t) (analyze-if-at t) analyze-if.Post
+analyze-if-returns-3 t c =
+    let a = c .before .before .before .before .before .before .before .before .before .before .args in
+    let s = a .listing .now in
+    let t = a .table .now in
+    let pre = c .before .before .before .before .before .before .before .before .before .before .pre .1 in
+    let st = pre .0 in
+    λ x j sp.
+    let P = if-parts (lineIn t) s (a .loc) (a .has-else) (a .i) x j (statement-is sp (pre .4)) in
+    let T = c .before .before .before .before .before .before .examine-at .ensures (P .cond) (P .mid) (P .spells) in
+    moved-refused (c .refuse .ensures) (P .stops (a .d .target) _ _ _ (T .stops _ (c .before .before .before .before .a .given .1) (a .rows) (a .taken .now)))
+
+analyze-if-returns-4 : (t : ℕ) → analyze-if-lts.Need-returns-4 (analyze-if-calls t) (analyze-if-at t) analyze-if.Post
+analyze-if-returns-4 t c =
+    let a = c .before .before .before .before .before .before .before .before .before .before .before .before .before .before .before .before .before .args in
+    let s = a .listing .now in
+    let t = a .table .now in
+    let pre = c .before .before .before .before .before .before .before .before .before .before .before .before .before .before .before .before .before .pre .1 in
+    let st = pre .0 in
+    let line = pre .4 ∙ ap (λ h. Line.Statement (StatementLine.IfStatement (a .loc) h)) (not-false _ (c .before .before .before .if2 .left)) in
+    let P₀ = if-parts (lineIn t) s (a .loc) (a .has-else) (a .i) (st .tree) (st .next) (statement-is (st .spells) (pre .4)) in
+    let on₀ = c .before .before .before .before .before .before .before .before .before .before .before .before .before .examine-at .ensures (P₀ .cond) (P₀ .mid) (P₀ .spells) .passes _ (c .before .before .before .before .before .before .before .before .before .before .before .a2 .given .1) in
+    let low : c .before .before .before .before .before .before .before .before .before .before .before .a2 .given .0 .0 < 4294967296 = omega (arith, on₀ .0, block-on _ _ (P₀ .inner), P₀ .within, st .within, st .rows .few) in
+    λ x j sp.
+    let P = if-parts (lineIn t) s (a .loc) true (a .i) x j (statement-is sp line) in
+    let T = c .before .before .before .before .before .before .before .before .before .before .before .before .before .examine-at .ensures (P .cond) (P .mid) (P .spells) in
+    let on = T .passes _ (c .before .before .before .before .before .before .before .before .before .before .before .a2 .given .1) in
+    let at : c .before .before .before .before .before .before .before .before .before .before .before .a2 .given .0 .0 % 4294967296 ≡ P .mid = omega (arith, low, on .0) in
+    let C = conditioned s t (a .d) (a .loc) (P .cond) (a .rows) (a .taken .now) (branchIn (a .out .now)) (a .path) (c .before .before .before .before .before .before .before .before .before .before .before .before .before .examine-at .result .path) (on .1) in
+    let m₂ = c .before .before .before .before .before .before .analyze-block .ensures (P .block) (P .end) (subst (λ k. SpellsBlock (lineIn t) s k (P .block) (P .end)) (sym at) (P .inner)) in
+    let z₂ = c .before .before .before .before .if1 .left in
+    let E = else-parts s t (a .d) (a .rows) (a .taken .now) (branchIn (a .out .now)) (a .path) (c .before .before .before .before .before .before .before .before .before .before .before .before .before .examine-at .result .path) P C m₂ z₂ in
+    moved-as (c .analyze-else .ensures (E .block) j (subst (λ k. SpellsBlock (lineIn t) s k (E .block) j) (sym (m₂ .next z₂)) (E .spells))) (sym (E .same)) refl
+
+pub +analyze-block+analyze-else+analyze-if-spec : {M : Type 1} → statement M
++analyze-block+analyze-else+analyze-if-spec =
+    close μ-analyze-block μ-analyze-else μ-analyze-if (λ t. analyze-block-lts.spec (analyze-block-calls t)
+    (analyze-block-at t)
+    analyze-block.Post
+    analyze-block-Inv-loop
+    analyze-block-μ-loop
+    (analyze-block-block-at-requires t)
+    (analyze-block-add-next t)
+    (analyze-block-loop-holds t)
+    (analyze-block-add-k t)
+    (analyze-block-analyze-statement-requires t)
+    (analyze-block-enum-known-step t)
+    (analyze-block-loop-less t)
+    (analyze-block-loop-again t)
+    (analyze-block-enum-known-step-2 t)
+    (analyze-block-refuse-requires t)
+    (analyze-block-returns t)
+    (analyze-block-enum-known-step-3 t)
+    (analyze-block-element-copy-out-examine-at t)
+    (analyze-block-add-examine-at t)
+    (analyze-block-examine-at-requires t)
+    (analyze-block-enum-known-answer t)
+    (analyze-block-refuse-requires-2 t)
+    (analyze-block-returns-2 t)
+    (analyze-block-enum-known-answer-2 t)
+    (analyze-block-cast-next t)
+    (analyze-block-loop-less-2 t)
+    (analyze-block-loop-again-2 t)
+    (analyze-block-enum-known-step-4 t)
+    (analyze-block-analyze-if-requires t)
+    (analyze-block-element-copy-out-if1 t)
+    (analyze-block-returns-3 t)
+    (analyze-block-element-copy-out-path-in-use t)
+    (analyze-block-cast-path-in-use t)
+    (analyze-block-mul-path-in-use t)
+    (analyze-block-array-copy-out-path-in-use t)
+    (analyze-block-element-copy-out-path-in-use-2 t)
+    (analyze-block-path-in-use-requires t)
+    (analyze-block-element-copy-out-next t)
+    (analyze-block-loop-less-3 t)
+    (analyze-block-loop-again-3 t)
+    (analyze-block-element-copy-out-branch t)
+    (analyze-block-put-pass-requires t)
+    (analyze-block-cast-rows t)
+    (analyze-block-mul-rows t)
+    (analyze-block-array-set-from-rows t)
+    (analyze-block-cast-taken t)
+    (analyze-block-mul-taken t)
+    (analyze-block-element-write-taken t)
+    (analyze-block-returns-4 t)
+    (analyze-block-returns-5 t))
+    (λ t. analyze-else-lts.spec (analyze-else-calls t)
+    (analyze-else-at t)
+    analyze-else.Post
+    (analyze-else-element-copy-out-branch t)
+    (analyze-else-add-next t)
+    (analyze-else-cast-path-in-use t)
+    (analyze-else-mul-path-in-use t)
+    (analyze-else-array-copy-out-path-in-use t)
+    (analyze-else-path-in-use-requires t)
+    (analyze-else-element-copy-out-cross t)
+    (analyze-else-cross-requires t)
+    (analyze-else-enum-known-a t)
+    (analyze-else-refuse-requires t)
+    (analyze-else-enum-told t)
+    (analyze-else-put-branch-requires t)
+    (analyze-else-element-copy-out-other t)
+    (analyze-else-analyze-block-requires t)
+    (analyze-else-returns t)
+    (analyze-else-returns-2 t))
+    λ t. analyze-if-lts.spec (analyze-if-calls t)
+    (analyze-if-at t)
+    analyze-if.Post
+    (analyze-if-element-copy-out-examine-at t)
+    (analyze-if-add-examine-at t)
+    (analyze-if-examine-at-requires t)
+    (analyze-if-enum-known-a t)
+    (analyze-if-refuse-requires t)
+    (analyze-if-enum-known-a-2 t)
+    (analyze-if-cast-then t)
+    (analyze-if-analyze-block-requires t)
+    (analyze-if-element-copy-out-if1 t)
+    (analyze-if-returns t)
+    (analyze-if-returns-2 t)
+    (analyze-if-analyze-else-requires t)
+    (analyze-if-returns-3 t)
+    (analyze-if-returns-4 t)
