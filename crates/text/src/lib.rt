@@ -100,20 +100,11 @@ pub fn is_digit(b: u8) -> bool
     is_within(48, 57, b)
 }
 
-// An ASCII letter, digit or underscore.
+// An ASCII letter, digit or underscore, tested without a branch.
 pub fn is_name_byte(b: u8) -> bool
     ensures { λ r. ⌜ r ≡ isNameByte b ⌝ }
 {
-    if is_digit(b) {
-        return true;
-    }
-    if is_within(65, 90, b) {
-        return true;
-    }
-    if is_within(97, 122, b) {
-        return true;
-    }
-    b == 95
+    ((48 <= b) & (b <= 57)) | ((65 <= b) & (b <= 90)) | ((97 <= b) & (b <= 122)) | (b == 95)
 }
 
 // A lower-case hex digit, tested without a branch.
