@@ -108,7 +108,7 @@ module _ (s t : List ℕ) (d : Declared) (G : Given s t d) {p : ℕ} (more : p <
   pub items-at : ItemsAt s t (getD (d .counts) p 0) (getD (d .firsts) p 0)
   items-at = record { tree = getD (G .contract .declarations) p []; next = getD (d .firsts) p 0 + getD (d .counts) p 0; spells = here .spells; count = G .count; within = here .within; rows = G .rows }
 
-  module _ (u : Used) {n j : ℕ} (B : Built s t (getD (G .contract .declarations) p []) j u) (a : u .answer ≡ Pass n) where
+  module _ (u : Used) {n : ℕ} (B : Built s t (getD (G .contract .declarations) p []) (getD (d .firsts) p 0 + getD (d .counts) p 0) u) (a : u .answer ≡ Pass n) where
     formed : WellFormed s t (u .path)
     formed = B .onward n a .1
 
@@ -126,7 +126,7 @@ module _ (s t : List ℕ) (d : Declared) (G : Given s t d) {p : ℕ} (more : p <
     usable-more rows taken f g h r q i = choose (eqb q p) refl
       where
         choose : (b : Bool) → eqb q p ≡ b → PathReady s t (getD (d .firsts) q 0) (getD (d .counts) q 0) (pathAt d (set rows p (u .path .places)) (set taken p (u .path .taken)) q)
-        choose true e = subst (λ q. PathReady s t (getD (d .firsts) q 0) (getD (d .counts) q 0) (pathAt d (set rows p (u .path .places)) (set taken p (u .path .taken)) q)) (sym (eqb-true q p e)) (subst (PathReady s t (getD (d .firsts) p 0) (getD (d .counts) p 0)) (sym (put-is rows taken f g h)) (record { formed = formed; items = items-at; same = same-items }))
+        choose true e = subst (λ q. PathReady s t (getD (d .firsts) q 0) (getD (d .counts) q 0) (pathAt d (set rows p (u .path .places)) (set taken p (u .path .taken)) q)) (sym (eqb-true q p e)) (subst (PathReady s t (getD (d .firsts) p 0) (getD (d .counts) p 0)) (sym (put-is rows taken f g h)) (record { formed = formed; items = items-at; same = same-items; placed = B .onward n a .2 }))
         choose false e = let o = eqb-false q p e in subst (PathReady s t (getD (d .firsts) q 0) (getD (d .counts) q 0)) (sym (other-path s t d rows taken p (u .path .places) (u .path .taken) q o)) (r q (omega arith))
 
 -- the paths that are not built yet are empty

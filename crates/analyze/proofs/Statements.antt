@@ -28,10 +28,14 @@ use Rattle.rules.specs.Table.{Table}
 use Rattle.rules.specs.Walk.{Walked as Walk, tableAt, examineAt, cross, walkStatement, walk}
 use Rattle.usage.specs.declared.NamePlace.{NamePlace}
 use Rattle.usage.specs.declared.Path.{Path}
-use Rattle.usage.specs.Path.{tableOf}
+use Rattle.usage.specs.Path.{tableOf, WellFormed}
 use Rattle.analyze.specs.declared.Declared.{Declared}
-use Rattle.analyze.specs.State.{tablesOf, tablesWith, OnPath, Ready, faultIn, branchIn, outcome, Moved, examined, walkElse, passed}
+use Rattle.analyze.specs.State.{tablesOf, tablesWith, OnPath, Ready, faultIn, nextIn, branchIn, outcome, Moved, examined, passed}
 use Rattle.analyze.proofs.State.{passed-says, passed-zero, outcome-pass, outcome-fault, element-set, set-past, table-at, table-past}
+
+-- the else-block b of an if at l: from w, where the walk of the if-block has come to, to the next path, t being the table after the condition
+abbrev pub walkElse : Block → Target → Location → Table → Walk → Result Walk
+walkElse b g l t w = cross l t w >>= λ w′. walk b g (w′ .tables) (w′ .branch)
 
 -- the same step under another name of its result
 pub moved-as : {s t : List ℕ} {d : Declared} {w v : Result Walk} {j k : ℕ} {rows : List (List NamePlace)} {taken out : List ℕ} → Moved s t d w j rows taken out → w ≡ v → j ≡ k → Moved s t d v k rows taken out
@@ -231,6 +235,15 @@ module _ {L : ℕ → Line} (s t : List ℕ) (d : Declared) {l : Location} {i j 
     spells = P .rest .1;
     same = P .rest .2 (d .target) (tablesWith s t d rows₁ taken₁ n p) n (tableOf s t q) (record { tables = tablesOf s t d rows₂ taken₂; branch = branchIn out₂ }) (C .is) (inner-is P C ∙ moved-on m z);
   }
+
+-- an if at row i whose block has passed, so that its else-block is left: `whole` is the walk of the if, q the path after the condition
+pub record ElseLeft (s t : List ℕ) (d : Declared) (l : Location) (i : ℕ) (whole : Statement → Result Walk) (q : Path) (rows : List (List NamePlace)) (taken out : List ℕ) : Type 0 where
+  pub ready : Ready s t d rows taken
+  pub full : length out ≡ 7
+  pub formed : WellFormed s t q
+  pub stands : BlockAt s t (nextIn out)
+  pub further : i < nextIn out
+  pub rest : (x : Statement) (j : ℕ) → SpellsStatement (lineIn t) s i x j → (b : Block) × SpellsBlock (lineIn t) s (nextIn out) b j × (whole x ≡ walkElse b (d .target) l (tableOf s t q) (record { tables = tablesOf s t d rows taken; branch = branchIn out }))
 
 -- the condition of an if, and its block, stand below it
 pub if-holds : {s t : List ℕ} {l : Location} {h : Bool} {i : ℕ} (st : StatementAt s t i) (P : IfParts (lineIn t) s l h i (st .tree) (st .next)) → ExpressionAt s t (i + 1) × BlockAt s t (P .mid)

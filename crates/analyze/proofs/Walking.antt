@@ -31,11 +31,12 @@ use Rattle.usage.specs.declared.NamePlace.{NamePlace}
 use Rattle.usage.specs.declared.Path.{Path}
 use Rattle.usage.specs.declared.Used.{Used}
 use Rattle.usage.specs.Path.{tableOf, resultWith, resultOf, Onward, Walked}
+use Rattle.usage.proofs.Walks.{placed-on}
 use Rattle.analyze.specs.declared.Declared.{Declared}
 use Rattle.analyze.specs.declared.walk.Step.{Step}
-use Rattle.analyze.specs.State.{pathAt, tablesOf, tablesWith, PathReady, Ready, InUse, Tried, Told, OnlyFault, Moved, examined, walkElse}
+use Rattle.analyze.specs.State.{pathAt, tablesOf, tablesWith, PathReady, Ready, InUse, Tried, Told, OnlyFault, Moved, examined}
 use Rattle.analyze.proofs.State.{moved-refused, items-same, path-count, element-set, set-there, set-past, table-at, table-past, tables-set, ready-set}
-use Rattle.analyze.proofs.Statements.{moved-as}
+use Rattle.analyze.proofs.Statements.{walkElse, moved-as}
 
 -- what a walk on one path says
 pub result-fault : (s t : List ℕ) (u : Used) {x : CompileError} {w : Result Table} → resultOf s t u ≡ w → u .answer ≡ Fault x → w ≡ err x
@@ -90,7 +91,7 @@ module _ (s t : List ℕ) (d : Declared) (rows : List (List NamePlace)) (taken :
 
 -- the path in use after a walk on it
 stays : (s t : List ℕ) (d : Declared) (n : ℕ) {p : Path} → InUse s t d n p → (u : Used) {j m : ℕ} → Onward s t p j u m → InUse s t d n (u .path)
-stays s t d n {p} r u on h = record { formed = on .sound; items = r h .items; same = items-same s t p (u .path) (on .items) ∙ r h .same }
+stays s t d n {p} r u on h = record { formed = on .sound; items = r h .items; same = items-same s t p (u .path) (on .items) ∙ r h .same; placed = placed-on (on .sound) (on .items) (r h .placed) }
 
 -- an expression on the path n, whose table is p's
 module _ (s t : List ℕ) (d : Declared) (n : ℕ) (p : Path) (l : Location) (e : Expression) (j : ℕ) (u : Used) where
@@ -124,6 +125,21 @@ module _ (s t : List ℕ) (d : Declared) (n : ℕ) (p : Path) (l : Location) (e 
       );
       stops = λ x a rows taken. rw (on-path rows taken, result-fault s t u (w .result) a);
     }
+
+-- what a rule answers on path n, from p or from q: they are the same where that path is declared
+module _ (s t : List ℕ) (d : Declared) (n : ℕ) {p q : Path} (e : n < d .count → p ≡ q) where
+  with-same : (rows : List (List NamePlace)) (taken : List ℕ) → tablesWith s t d rows taken n p ≡ tablesWith s t d rows taken n q
+  with-same rows taken = go (ltb n (d .count)) refl
+    where
+      go : (b : Bool) → ltb n (d .count) ≡ b → tablesWith s t d rows taken n p ≡ tablesWith s t d rows taken n q
+      go true h = ap (tablesWith s t d rows taken n) (e (ltb-true n (d .count) h))
+      go false h = let past = table-past s t d rows taken n (ltb-false n (d .count) h) in set-past (tablesOf s t d rows taken) n (tableOf s t p) past ∙ sym (set-past (tablesOf s t d rows taken) n (tableOf s t q) past)
+
+  pub tried-as : {w : List Table → ℕ → Result Walk} {j : ℕ} {u : Used} → Tried s t d n p w j u → Tried s t d n q w j u
+  tried-as {w} T = record {
+    passes = λ m a. let on = T .passes m a in (on .0, record { result = λ rows taken. ap (λ ts. w ts n) (sym (with-same rows taken)) ∙ on .1 .result rows taken; in-use = on .1 .in-use });
+    stops = λ x a rows taken. ap (λ ts. w ts n) (sym (with-same rows taken)) ∙ T .stops x a rows taken;
+  }
 
 -- what the step of a statement says of it
 module _ (s t : List ℕ) {x : Statement} (i : ℕ) {j : ℕ} {l : Location} where

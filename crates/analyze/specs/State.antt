@@ -1,5 +1,5 @@
 -- The state of the walk over the statements: the rows of name places, the taken sets, and the answer in numbers.
-use Prim.Native.Nat.{ℕ, zero, suc, _≤_, _<_}
+use Prim.Native.Nat.{ℕ, zero, suc, _+_, _≤_, _<_}
 use mathlib.Core.Bool.{true, false}
 use mathlib.Core.List.{List, [], _∷_}
 use mathlib.Core.Path.{_≡_}
@@ -9,7 +9,7 @@ use Rattle.ast.specs.declared.Location.{Location}
 use Rattle.ast.specs.declared.CompileError.{CompileError}
 use Rattle.ast.specs.Numbers.{kindFrom}
 use Rattle.ast.specs.declared.Target.{Target}
-use Rattle.ast.specs.Tree.{Declaration, Expression, Statement, Block, fault, number}
+use Rattle.ast.specs.Tree.{Declaration, Expression, Statement, fault, number}
 use Rattle.listing.specs.declared.Line.{Line}
 use Rattle.listing.specs.declared.StatementLine.{StatementLine}
 use Rattle.rows.specs.Rows.{lineIn}
@@ -18,12 +18,12 @@ use Rattle.nodes.specs.declared.Answer.the-variants.{Pass, Fault}
 use Rattle.rules.specs.Result.{Result, ok, err, _>>=_, _>>_}
 use Rattle.rules.specs.Table.{Table, params, buildAll}
 use Rattle.rules.specs.Unused.{unusedAll}
-use Rattle.rules.specs.Walk.{Walked, examineAt, cross, walkStatement, walk}
+use Rattle.rules.specs.Walk.{Walked, examineAt, walkStatement}
 use Rattle.names.specs.Items.{ItemsAt, itemsDown}
 use Rattle.usage.specs.declared.NamePlace.{NamePlace}
 use Rattle.usage.specs.declared.Path.{Path}
 use Rattle.usage.specs.declared.Used.{Used}
-use Rattle.usage.specs.Path.{tableOf, noPlace, WellFormed}
+use Rattle.usage.specs.Path.{tableOf, noPlace, WellFormed, Placed}
 use Rattle.analyze.specs.declared.Declared.{Declared}
 use Rattle.analyze.specs.declared.walk.Step.{Step}
 
@@ -48,11 +48,12 @@ noneTaken = replicate 32 0
 unfoldable pub noRows : List (List NamePlace)
 noRows = replicate 32 (replicate 32 noPlace)
 
--- a path that is used with the items of a declaration: `count` of them, the first at row `first`
+-- a path that is used with the items of a declaration: `count` of them, the first at row `first`; its places are those of these rows
 pub record PathReady (s t : List ℕ) (first count : ℕ) (p : Path) : Type 0 where
   pub formed : WellFormed s t p
   pub items : ItemsAt s t count first
   pub same : params (tableOf s t p) ≡ itemsDown s t first count
+  pub placed : Placed (first + count) p
 
 -- every path of a declaration is, and those past the last declaration are empty
 pub record Ready (s t : List ℕ) (d : Declared) (rows : List (List NamePlace)) (taken : List ℕ) : Type 0 where
@@ -101,10 +102,6 @@ pub record Moved (s t : List ℕ) (d : Declared) (w : Result Walked) (j : ℕ) (
 -- a verify, return or condition on the path in use: its table is the one after the expression
 unfoldable pub examined : Target → Location → Expression → List Table → ℕ → Result Walked
 examined g l e ts n = examineAt g l e ts n >>= λ t. ok (record { tables = set ts n t; branch = n })
-
--- the else-block b of an if at l: from w, where the walk of the if-block has come to, to the next path, t being the table after the condition
-abbrev pub walkElse : Block → Target → Location → Table → Walked → Result Walked
-walkElse b g l t w = cross l t w >>= λ w′. walk b g (w′ .tables) (w′ .branch)
 
 -- a path n that is declared can be used
 abbrev pub InUse : List ℕ → List ℕ → Declared → ℕ → Path → Type 0
@@ -164,7 +161,7 @@ unfoldable pub answered : Result (List Table) → List ℕ
 answered (ok ts) = accepted
 answered (err x) = refusal x
 
--- the whole analysis: its result, and all seven numbers of it; after acceptance the paths past the last declaration are empty, after a refusal nothing is left but the fault
+-- the whole analysis: its result, and all seven numbers of it; after acceptance the tables and `Ready` say every place and taken set, after a refusal nothing is left but the fault
 pub record Analyzed (s t : List ℕ) (d : Declared) (w : Result (List Table)) (rows : List (List NamePlace)) (taken out : List ℕ) : Type 0 where
   pub result : analyzed (tablesOf s t d rows taken) out ≡ w
   pub numbers : out ≡ answered w

@@ -17,7 +17,7 @@ ghost use Rattle.nodes.specs.Stands.{ExpressionAt, StatementAt, BlockAt};
 ghost use Rattle.rules.specs.Walk.{cross as crossOf, walkStatement, walk};
 ghost use Rattle.usage.specs.Path.{tableOf, WellFormed, noPlace};
 ghost use Rattle.analyze.specs.declared.walk.Step.{Step};
-ghost use Rattle.analyze.specs.State.{tablesOf, tablesWith, noneTaken, noRows, refusal, OnlyFault, Ready, InUse, Tried, Told, Moved, nextIn, branchIn, examined, walkElse, passed, turned};
+ghost use Rattle.analyze.specs.State.{pathAt, tablesWith, noneTaken, noRows, refusal, OnlyFault, Ready, InUse, Tried, Told, Moved, branchIn, examined, passed, turned};
 use crate::Declared;
 use crate::examine::examine;
 use ast::Checked;
@@ -188,6 +188,25 @@ fn cross(
     transfer_prefix_consumption(listing, table, loc, from, to)
 }
 
+// From the if-block on the path `branch` to the next path, as the rows have it.
+fn cross_to(
+    listing: &[u8],
+    table: &[u32],
+    d: Declared,
+    loc: Location,
+    from: Path,
+    rows: [[NamePlace; 32]; 32],
+    taken: &[u32; 32],
+    branch: u32,
+) -> Used
+    requires { ⌜ WellFormed (now listing) (now table) from × Ready (now listing) (now table) d rows (now taken) ⌝ }
+    ensures { λ r. ⌜ Tried (now (listing .entry)) (now (table .entry)) d (suc branch) (pathAt d rows (now (taken .entry)) (suc branch)) (λ ts n. crossOf loc (tableOf (now (listing .entry)) (now (table .entry)) from) (record { tables = ts; branch = branch })) 0 r ⌝ }
+{
+    let next = branch % 32 + 1;
+    let to = path_in_use(d, rows[(next % 32) as usize], taken, next);
+    cross(listing, table, d, loc, branch, from, to)
+}
+
 // A pass on another path, in numbers.
 pub fn put_branch(out: &mut [u32; 7], branch: u32)
     ensures { λ _. ⌜ now (out .exit) ≡ turned (now (out .entry)) branch ⌝ }
@@ -305,36 +324,17 @@ fn analyze_if(
             if !has_else {
                 return after;
             }
-            analyze_else(listing, table, d, loc, from, after, taken, out)
-        }
-    }
-}
-
-// The else-block, at the next row, on the next path; `from` is the path in use after the condition.
-fn analyze_else(
-    listing: &[u8],
-    table: &[u32],
-    d: Declared,
-    loc: Location,
-    from: Path,
-    rows: [[NamePlace; 32]; 32],
-    taken: &mut [u32; 32],
-    out: &mut [u32; 7],
-) -> [[NamePlace; 32]; 32]
-    requires { ⌜ BlockAt (now listing) (now table) (nextIn (now out)) × Ready (now listing) (now table) d rows (now taken) × (length (now out) ≡ 7) × WellFormed (now listing) (now table) from ⌝ }
-    ensures { λ r. ⌜ ((b : Block) (j : ℕ) → SpellsBlock (lineIn (now (table .entry))) (now (listing .entry)) (nextIn (now (out .entry))) b j → Moved (now (listing .entry)) (now (table .entry)) d (walkElse b (d .target) loc (tableOf (now (listing .entry)) (now (table .entry)) from) (record { tables = tablesOf (now (listing .entry)) (now (table .entry)) d rows (now (taken .entry)); branch = branchIn (now (out .entry)) })) j r (now (taken .exit)) (now (out .exit))) ⌝ }
-{
-    let branch = out[6] % 32;
-    let next = branch + 1;
-    let to = path_in_use(d, rows[(next % 32) as usize], taken, next);
-    let crossed = cross(listing, table, d, loc, out[6], from, to);
-    let a = crossed.answer;
-    match a {
-        Answer::Fault(x) => refuse(taken, out, x),
-        Answer::Pass(_) => {
-            put_branch(out, next);
-            let other = out[5];
-            analyze_block(listing, table, d, other, crossed.path, rows, taken, out)
+            let crossed = cross_to(listing, table, d, loc, from, after, taken, out[6]);
+            let b = crossed.answer;
+            match b {
+                Answer::Fault(x) => refuse(taken, out, x),
+                Answer::Pass(_) => {
+                    let to = out[6] % 32 + 1;
+                    put_branch(out, to);
+                    let other = out[5];
+                    analyze_block(listing, table, d, other, crossed.path, after, taken, out)
+                }
+            }
         }
     }
 }

@@ -75,7 +75,7 @@ transferFrom s t p q Other = unfit
 unfoldable pub transferAt : List ℕ → List ℕ → ℕ → Path → Path → Result Table
 transferAt s t i p q = whereFit (isPath s t p && isPath s t q) (transferFrom s t p q (ifIn t i))
 
--- the path p after the rule's result w: the answer r, and the path q that is left; it has the same items, and after a refusal it is p
+-- the path p after the rule's result w: the answer r, and the path q that is left; it has the same items, the lines of those taken are the table's and the others as they were, and after a refusal it is p
 pub record Kept (s t : List ℕ) (p : Path) (w : Result Table) (r : Answered) (q : Path) : Type 0 where
   pub answer : r ≡ answered w
   pub table : tableOf s t q ≡ tableAfter w (tableOf s t p)

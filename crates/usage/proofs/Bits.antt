@@ -1,5 +1,5 @@
 -- The taken set's bits: a shift tests one, `|` sets one, the trailing zeros of the complement are the taken positions before the first free one.
-use Prim.Native.Nat.{ℕ, zero, suc, _+_, _-_, _*_, _/_, _%_, _^_, _<_, max}
+use Prim.Native.Nat.{ℕ, zero, suc, _+_, _-_, _*_, _/_, _%_, _^_, _≤_, _<_, max}
 use native.Mathlib.Nat.{pow-suc, one-mul, mod-eq-of-lt, eq-zero-or-pos}
 use native.Mathlib.Omega.{arith}
 use mathlib.Core.Bool.{Bool, true, false}
@@ -56,6 +56,27 @@ unfolding withBit
 bit-within zero x k h b = absurd (omega arith)
 bit-within (suc n) x zero h b = omega (arith, pow-suc 2 n)
 bit-within (suc n) x (suc k) h b = omega (arith, pow-suc 2 n, bit-within n (x / 2) k (omega arith) (omega (arith, pow-suc 2 n)))
+
+-- position k of a set with position k, and another that was in it
+pub bit-same : (x k : ℕ) → bitAt (withBit x k) k ≡ 1
+unfolding bitAt withBit
+bit-same x zero = omega arith
+bit-same x (suc k) = let e : (withBit (x / 2) k * 2 + x % 2) / 2 ≡ withBit (x / 2) k = omega arith in rw e (bit-same (x / 2) k)
+
+pub bit-keeps : (x k j : ℕ) → bitAt x j ≡ 1 → bitAt (withBit x k) j ≡ 1
+unfolding bitAt withBit
+bit-keeps x zero zero h = omega arith
+bit-keeps x zero (suc j) h = let e : (x / 2 * 2 + 1) / 2 ≡ x / 2 = omega arith in rw e h
+bit-keeps x (suc k) zero h = omega arith
+bit-keeps x (suc k) (suc j) h = let e : (withBit (x / 2) k * 2 + x % 2) / 2 ≡ withBit (x / 2) k = omega arith in rw e (bit-keeps (x / 2) k j h)
+
+-- a set of n positions has none past them
+pub bit-past : (n x k : ℕ) → x < 2 ^ n → n ≤ k → bitAt x k ≡ 0
+unfolding bitAt
+bit-past zero x zero h i = omega arith
+bit-past zero x (suc k) h i = bit-past zero (x / 2) k (omega arith) (omega arith)
+bit-past (suc n) x zero h i = absurd (omega arith)
+bit-past (suc n) x (suc k) h i = bit-past n (x / 2) k (omega (arith, pow-suc 2 n)) (omega arith)
 
 -- the complement's lowest bit and its rest
 module _ (k x : ℕ) (h : x < 2 ^ suc k) where

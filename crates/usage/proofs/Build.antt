@@ -7,8 +7,8 @@ use mathlib.Core.List.{List, [], _∷_, _++_, map, reverseAux, append-assoc, app
 use mathlib.Core.Option.{none}
 use mathlib.Core.Path.{_≡_, refl, sym, ap, ap₂, _∙_, subst}
 use lib.ListN.{length, getD, take, drop, set, replicate, length-set, List·getD-map, drop-of-length-le}
-use borrow.Author.Tests.{ltb-true, ltb-false}
-use lib.Dec.{ltb}
+use borrow.Author.Tests.{ltb-true, ltb-false, eqb-true, eqb-false}
+use lib.Dec.{ltb, eqb}
 use lib.Pow.{pow-pos}
 use lib.Seq.{take-suc, drop-cons, getD-set-same, getD-set-other}
 use Rattle.ast.specs.declared.ErrorKind.the-variants.{DuplicateVariable}
@@ -28,7 +28,8 @@ use Rattle.names.proofs.Laws.{item-is, items-are}
 use Rattle.usage.specs.declared.NamePlace.{NamePlace}
 use Rattle.usage.specs.declared.Path.{Path}
 use Rattle.usage.specs.declared.Used.{Used}
-use Rattle.usage.specs.Path.{takenBy, tableFrom, tableOf, noPlace, WellFormed, resultWith, resultOf}
+use Rattle.usage.specs.Taken.{isTaken}
+use Rattle.usage.specs.Path.{takenBy, tableFrom, tableOf, noPlace, WellFormed, Placed, resultWith, resultOf}
 use Rattle.usage.specs.Tables.{Built}
 use Rattle.usage.proofs.Tables.{row-named}
 
@@ -123,22 +124,23 @@ table-more s t (p ∷ r ∷ qs) zero q h = refl
 table-more s t (p ∷ qs) (suc n) q h = rw (table-more s t qs n q (omega arith))
 
 module _ {s t : List ℕ} {p : Path} (w : WellFormed s t p) (row : ℕ) (lt : p .count < 32) (named : NamedRow s t row) where
-  row-at : (k : ℕ) → k < p .count + 1 → NamedRow s t (getD (set (p .places) (p .count) (record { row = row; line = 0 })) k noPlace .row)
+  -- a position that is not the last keeps its place
+  other : (k : ℕ) → (k ≡ p .count → ⊥) → getD (added p row .places) k noPlace ≡ getD (p .places) k noPlace
+  other k n = getD-set-other (p .places) (p .count) k (record { row = row; line = 0 }) noPlace n
+
+  last : (k : ℕ) → k ≡ p .count → getD (added p row .places) k noPlace ≡ record { row = row; line = 0 }
+  last k e = ap (λ n. getD (added p row .places) n noPlace) e ∙ getD-set-same (p .places) (p .count) (record { row = row; line = 0 }) noPlace (omega (arith, w .full))
+
+  row-at : (k : ℕ) → k < p .count + 1 → NamedRow s t (getD (added p row .places) k noPlace .row)
   row-at k h = go (ltb k (p .count)) refl
     where
-      place : NamePlace
-      place = record { row = row; line = 0 }
-
-      go : (b : Bool) → ltb k (p .count) ≡ b → NamedRow s t (getD (set (p .places) (p .count) place) k noPlace .row)
+      go : (b : Bool) → ltb k (p .count) ≡ b → NamedRow s t (getD (added p row .places) k noPlace .row)
       go true e =
           let lower : k < p .count = ltb-true k (p .count) e in
-          let other : getD (set (p .places) (p .count) place) k noPlace ≡ getD (p .places) k noPlace = getD-set-other (p .places) (p .count) k place noPlace (λ q. omega arith) in
-          subst (λ (q : NamePlace). NamedRow s t (q .row)) (sym other) (row-named w k lower)
+          subst (λ (q : NamePlace). NamedRow s t (q .row)) (sym (other k (λ q. omega arith))) (row-named w k lower)
       go false e =
           let upper : p .count ≤ k = ltb-false k (p .count) e in
-          let last : k ≡ p .count = omega arith in
-          let here : getD (set (p .places) (p .count) place) k noPlace ≡ place = ap (λ n. getD (set (p .places) (p .count) place) n noPlace) last ∙ getD-set-same (p .places) (p .count) place noPlace (omega (arith, w .full)) in
-          subst (λ (q : NamePlace). NamedRow s t (q .row)) (sym here) named
+          subst (λ (q : NamePlace). NamedRow s t (q .row)) (sym (last k (omega arith))) named
 
   pub added-sound : p .taken ≡ 0 → WellFormed s t (added p row)
   added-sound e = record {
@@ -152,8 +154,37 @@ module _ {s t : List ℕ} {p : Path} (w : WellFormed s t p) (row : ℕ) (lt : p 
   unfolding tableOf
   added-table e = rw (e, add-one (p .count)) (table-more s t (p .places) (p .count) (record { row = row; line = 0 }) (omega (arith, w .full)))
 
+  -- the row before those that are entered
+  added-placed : {j : ℕ} → row + suc (p .count) ≡ j → Placed j p → Placed j (added p row)
+  added-placed {j} e h = record {
+    row = λ k i. row-of k i (ltb k (p .count)) refl;
+    line = λ k f. line-of k f (eqb k (p .count)) refl;
+    past = λ k i. other k (λ q. omega arith) ∙ h .past k (omega arith);
+  }
+    where
+      row-of : (k : ℕ) → k < p .count + 1 → (b : Bool) → ltb k (p .count) ≡ b → getD (added p row .places) k noPlace .row + suc k ≡ j
+      row-of k i true q =
+          let lower : k < p .count = ltb-true k (p .count) q in
+          ap (λ (x : NamePlace). x .row + suc k) (other k (λ z. omega arith)) ∙ h .row k lower
+      row-of k i false q =
+          let upper : p .count ≤ k = ltb-false k (p .count) q in
+          let z : k ≡ p .count = omega arith in
+          ap (λ (x : NamePlace). x .row + suc k) (last k z) ∙ ap (λ n. row + suc n) z ∙ e
+
+      line-of : (k : ℕ) → isTaken (p .taken) k ≡ false → (b : Bool) → eqb k (p .count) ≡ b → getD (added p row .places) k noPlace .line ≡ 0
+      line-of k f true q = ap (λ (x : NamePlace). x .line) (last k (eqb-true k (p .count) q))
+      line-of k f false q = ap (λ (x : NamePlace). x .line) (other k (eqb-false k (p .count) q)) ∙ h .line k f
+
 pub none-sound : (s t : List ℕ) → WellFormed s t (record { places = replicate 32 noPlace; count = 0; taken = 0 })
 none-sound s t = record { full = refl; few = omega arith; within = omega arith; rows = λ k h. absurd (omega arith) }
+
+none-at : (n k : ℕ) → _≡_ {A = NamePlace} (getD (replicate n noPlace) k noPlace) noPlace
+none-at zero k = refl
+none-at (suc n) zero = refl
+none-at (suc n) (suc k) = none-at n k
+
+none-placed : (j : ℕ) → Placed j (record { places = replicate 32 noPlace; count = 0; taken = 0 })
+none-placed j = record { row = λ k h. absurd (omega arith); line = λ k h. ap (λ (x : NamePlace). x .line) (none-at 32 k); past = λ k h. none-at 32 k }
 
 -- ---- the loop over `count` items from row `first` on: k of them are entered, the last declared first
 
@@ -170,6 +201,7 @@ down-item s t i (suc n) (suc k) d h = let e : suc n - 1 - suc k ≡ n - 1 - k = 
 
 pub record Building (s t : List ℕ) (first count k : ℕ) (p : Path) : Type 0 where
   pub sound : WellFormed s t p
+  pub placed : Placed (first + count) p
   pub entries : p .count ≡ k
   pub untouched : p .taken ≡ 0
   pub table : tableOf s t p ≡ map fresh (take k (itemsDown s t first count))
@@ -177,7 +209,7 @@ pub record Building (s t : List ℕ) (first count k : ℕ) (p : Path) : Type 0 w
 
 pub build-start : (s t : List ℕ) (first count : ℕ) {p : Path} → p ≡ record { places = replicate 32 noPlace; count = 0; taken = 0 } → Building s t first count 0 p
 unfolding entered tableOf tableFrom
-build-start s t first count e = rw e (record { sound = none-sound s t; entries = refl; untouched = refl; table = refl; rest = bind-id (enter [] (itemsDown s t first count)) })
+build-start s t first count e = rw e (record { sound = none-sound s t; placed = none-placed (first + count); entries = refl; untouched = refl; table = refl; rest = bind-id (enter [] (itemsDown s t first count)) })
   where
     bind-id : (r : Result Table) → (r >>= λ t. ok t) ≡ r
     bind-id (ok a) = refl
@@ -214,7 +246,7 @@ module _ {s t : List ℕ} {first count k : ℕ} {p : Path} (b : Building s t fir
       let whole : entered (take k l) (drop k l) ≡ ok (tableOf s t p) = rw (drop-of-length-le l all) (ap ok (append-nil (map fresh (take k l)) ∙ sym (b .table))) in
       record {
         result = rw e (sym whole ∙ b .rest ∙ spelled s t first count d sp);
-        onward = λ n q. let a : Pass (first + count) ≡ Pass n = sym (ap (λ v. v .answer) e) ∙ q in let m : first + count ≡ n = cc in (sym m, rw e (b .sound));
+        onward = λ n q. let a : Pass (first + count) ≡ Pass n = sym (ap (λ v. v .answer) e) ∙ q in let m : first + count ≡ n = cc in (sym m, rw e (b .sound), rw e (b .placed));
       }
 
   module _ (lt : k < count) (it : Item) (is : lineIn t (first + (count - 1 - k)) ≡ lineOf it) where
@@ -244,6 +276,7 @@ module _ {s t : List ℕ} {first count k : ℕ} {p : Path} (b : Building s t fir
         let room : p .count < 32 = omega (arith, b .entries) in
         rw (add-one k) (record {
           sound = added-sound (b .sound) (first + (count - 1 - k)) room named (b .untouched);
+          placed = added-placed (b .sound) (first + (count - 1 - k)) room named (omega (arith, b .entries)) (b .placed);
           entries = omega (arith, b .entries);
           untouched = b .untouched;
           table = added-table (b .sound) (first + (count - 1 - k)) room named (b .untouched) ∙ ap (λ tb. tb ++ (fresh q ∷ [])) (b .table) ∙ sym (map-last (take k l) q) ∙ ap (map fresh) (sym (gone s t first count k lt));

@@ -6,10 +6,10 @@ use mathlib.Core.List.{List, [], _∷_, map}
 use mathlib.Core.Logic.{_⊎_, inl, inr}
 use mathlib.Core.Option.{Option, some, none}
 use mathlib.Core.Path.{_≡_, refl, sym, ap, ap₂, _∙_, subst}
-use borrow.Author.Tests.{lt-ltb, le-ltb, eqb-true, eqb-false}
+use borrow.Author.Tests.{lt-ltb, le-ltb, eq-eqb, eqb-true, eqb-false}
 use lib.Dec.{ltb, leb·suc-suc}
 use lib.ListN.{length, getD, drop, getElem?, set, length-set, List·getD-map}
-use lib.Seq.{drop-cons, map-set-same}
+use lib.Seq.{drop-cons, map-set-same, getD-set-other}
 use Rattle.ast.specs.declared.Location.{Location}
 use Rattle.ast.specs.declared.ErrorKind.the-variants.{UndefinedVariable, VariableConsumed, InvalidConsumptionOrder}
 use Rattle.ast.specs.Tree.{Name, same, StackParam}
@@ -29,7 +29,7 @@ use Rattle.usage.specs.declared.NamePlace.{NamePlace}
 use Rattle.usage.specs.declared.Path.{Path}
 use Rattle.usage.specs.Taken.{bitAt, isTaken, withBit, freeIn, firstFree}
 use Rattle.usage.specs.Path.{takenBy, tableFrom, tableOf, noPlace, rowsOf, WellFormed, SameItems, marked}
-use Rattle.usage.proofs.Bits.{parity, free-even, free-odd, bit-within}
+use Rattle.usage.proofs.Bits.{parity, free-even, free-odd, bit-within, bit-same, bit-keeps}
 
 -- ---- bits as tests
 
@@ -212,7 +212,13 @@ marked-rows : (p : Path) (k n : ℕ) → rowsOf (marked p k n) ≡ rowsOf p
 marked-rows p k n = map-set-same (λ (q : NamePlace). q .row) (p .places) k (record { row = getD (p .places) k noPlace .row; line = n }) noPlace refl
 
 pub marked-items : (p : Path) (k n : ℕ) → SameItems p (marked p k n)
-marked-items p k n = record { rows = marked-rows p k n; count = refl }
+unfolding isTaken
+marked-items p k n = record {
+  rows = marked-rows p k n;
+  count = refl;
+  more = λ j h. eq-eqb (bitAt (withBit (p .taken) k) j) 1 (bit-keeps (p .taken) k j (eqb-true (bitAt (p .taken) j) 1 h));
+  rest = λ j h. getD-set-other (p .places) k j (record { row = getD (p .places) k noPlace .row; line = n }) noPlace (λ e. eqb-false (bitAt (withBit (p .taken) k) j) 1 h (subst (λ m. bitAt (withBit (p .taken) k) m ≡ 1) (sym e) (bit-same (p .taken) k)));
+}
 
 pub marked-sound : {s t : List ℕ} {p : Path} → WellFormed s t p → (k n : ℕ) → k < p .count → WellFormed s t (marked p k n)
 marked-sound {s} {t} {p} w k n h = record {

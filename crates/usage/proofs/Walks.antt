@@ -1,15 +1,21 @@
 -- What a walk answers.
-use Prim.Native.Nat.{ℕ}
+use Prim.Native.Nat.{ℕ, suc, _+_}
 use native.Mathlib.Omega.{arith}
+use mathlib.Core.Bool.{Bool, true, false}
 use mathlib.Core.List.{List}
 use mathlib.Core.Path.{_≡_, refl, sym, ap, _∙_}
+use lib.Dec.{eqb}
+use lib.ListN.{getD, List·getD-map}
 use Rattle.ast.specs.declared.CompileError.{CompileError}
 use Rattle.rules.specs.Result.{Result, ok, err}
 use Rattle.rules.specs.Table.{Table}
 use Rattle.nodes.specs.declared.Answer.the-variants.{Pass, Fault}
+use Rattle.usage.specs.declared.NamePlace.{NamePlace}
 use Rattle.usage.specs.declared.Path.{Path}
 use Rattle.usage.specs.declared.Used.{Used}
-use Rattle.usage.specs.Path.{tableOf, WellFormed, SameItems, resultWith, resultOf, Walked}
+use Rattle.usage.specs.Taken.{isTaken}
+use Rattle.usage.specs.Path.{tableOf, noPlace, WellFormed, SameItems, Placed, resultWith, resultOf, Walked}
+use Rattle.usage.proofs.Bits.{bit-past}
 
 module _ {s t : List ℕ} {p q : Path} {w : Result Table} {j : ℕ} {u : Used} where
   pub walk-fault : {x : CompileError} → u ≡ record { path = q; answer = Fault x } → w ≡ err x → Walked s t p w j u
@@ -31,10 +37,35 @@ module _ {s t : List ℕ} {p q : Path} {w : Result Table} {j : ℕ} {u : Used} w
   }
 
 pub same-items : (p : Path) → SameItems p p
-same-items p = record { rows = refl; count = refl }
+same-items p = record { rows = refl; count = refl; more = λ k h. h; rest = λ k h. refl }
+
+-- what is not taken after a walk was not before
+not-before : {p q : Path} → SameItems p q → (k : ℕ) → isTaken (q .taken) k ≡ false → isTaken (p .taken) k ≡ false
+not-before {p} {q} i k h = go (isTaken (p .taken) k) refl
+  where
+    go : (b : Bool) → isTaken (p .taken) k ≡ b → b ≡ false
+    go true e = sym (i .more k e) ∙ h
+    go false e = refl
 
 pub items-then : {p q r : Path} → SameItems p q → SameItems q r → SameItems p r
-items-then a b = record { rows = b .rows ∙ a .rows; count = b .count ∙ a .count }
+items-then {p} {q} {r} a b = record {
+  rows = b .rows ∙ a .rows;
+  count = b .count ∙ a .count;
+  more = λ k h. b .more k (a .more k h);
+  rest = λ k h. b .rest k h ∙ a .rest k (not-before b k h);
+}
+
+-- a path's places after a walk on it
+pub placed-on : {s t : List ℕ} {p q : Path} {j : ℕ} → WellFormed s t q → SameItems p q → Placed j p → Placed j q
+unfolding isTaken
+placed-on {s} {t} {p} {q} w i h = record {
+  row = λ k lt. ap (λ n. n + suc k) (same-row k) ∙ h .row k (omega (arith, i .count));
+  line = λ k f. ap (λ x. x .line) (i .rest k f) ∙ h .line k (not-before i k f);
+  past = λ k le. i .rest k (ap (λ n. eqb n 1) (bit-past (q .count) (q .taken) k (w .within) le)) ∙ h .past k (omega (arith, i .count));
+}
+  where
+    same-row : (k : ℕ) → getD (q .places) k noPlace .row ≡ getD (p .places) k noPlace .row
+    same-row k = sym (List·getD-map (λ (x : NamePlace). x .row) (q .places) k noPlace) ∙ ap (λ l. getD l k 0) (i .rows) ∙ List·getD-map (λ (x : NamePlace). x .row) (p .places) k noPlace
 
 module _ {s t : List ℕ} {p : Path} {w : Result Table} {j : ℕ} {u : Used} (h : Walked s t p w j u) where
   -- what a walk's answer says of the rule

@@ -1,6 +1,7 @@
 -- A path of the code as a table of document 01, and what a walk over it answers.
-use Prim.Native.Nat.{ℕ, zero, suc, _/_, _%_, _^_, _≤_, _<_}
+use Prim.Native.Nat.{ℕ, zero, suc, _+_, _/_, _%_, _^_, _≤_, _<_}
 use mathlib.Core.List.{List, [], _∷_, map}
+use mathlib.Core.Bool.{true, false}
 use mathlib.Core.Option.{Option, some, none}
 use mathlib.Core.Path.{_≡_}
 use lib.ListN.{length, getD, set}
@@ -12,7 +13,7 @@ use Rattle.names.specs.Items.{NamedRow, itemIn}
 use Rattle.usage.specs.declared.NamePlace.{NamePlace}
 use Rattle.usage.specs.declared.Path.{Path}
 use Rattle.usage.specs.declared.Used.{Used}
-use Rattle.usage.specs.Taken.{withBit}
+use Rattle.usage.specs.Taken.{isTaken, withBit}
 
 -- the line that took an item, if its bit is 1
 unfoldable pub takenBy : ℕ → ℕ → Option ℕ
@@ -43,10 +44,18 @@ pub record WellFormed (s t : List ℕ) (p : Path) : Type 0 where
   pub within : p .taken < 2 ^ p .count
   pub rows : (k : ℕ) → k < p .count → NamedRow s t (getD (rowsOf p) k 0)
 
--- two paths of the same items
+-- q has the items of p: what is taken in p is taken in q, and a position that is not taken in q is as it was
 pub record SameItems (p q : Path) : Type 0 where
   pub rows : rowsOf q ≡ rowsOf p
   pub count : q .count ≡ p .count
+  pub more : (k : ℕ) → isTaken (p .taken) k ≡ true → isTaken (q .taken) k ≡ true
+  pub rest : (k : ℕ) → isTaken (q .taken) k ≡ false → getD (q .places) k noPlace ≡ getD (p .places) k noPlace
+
+-- the places of a path whose items stand in the rows before j, the last of them at position 0: a position that is not taken has line 0, and past the items there is nothing
+pub record Placed (j : ℕ) (p : Path) : Type 0 where
+  pub row : (k : ℕ) → k < p .count → getD (p .places) k noPlace .row + suc k ≡ j
+  pub line : (k : ℕ) → isTaken (p .taken) k ≡ false → getD (p .places) k noPlace .line ≡ 0
+  pub past : (k : ℕ) → p .count ≤ k → getD (p .places) k noPlace ≡ noPlace
 
 -- position k taken by a line
 abbrev pub marked : Path → ℕ → ℕ → Path

@@ -10,13 +10,13 @@ use Rattle.rules.specs.Table.{Table, build}
 use Rattle.nodes.specs.declared.Answer.the-variants.{Pass}
 use Rattle.usage.specs.declared.Path.{Path}
 use Rattle.usage.specs.declared.Used.{Used}
-use Rattle.usage.specs.Path.{WellFormed, resultOf}
+use Rattle.usage.specs.Path.{WellFormed, Placed, resultOf}
 pub use Rattle.usage.specs.Path.{noPlace}
 
--- what is built from a declaration: the rule's result; after a pass the next row is j, and the path is well formed
+-- what is built from a declaration: the rule's result; after a pass the next row is j, the path is well formed, and its places are those of the rows before j
 pub record Built (s t : List ℕ) (d : Declaration) (j : ℕ) (u : Used) : Type 0 where
   pub result : resultOf s t u ≡ build d
-  pub onward : (n : ℕ) → u .answer ≡ Pass n → (n ≡ j) × WellFormed s t (u .path)
+  pub onward : (n : ℕ) → u .answer ≡ Pass n → (n ≡ j) × WellFormed s t (u .path) × Placed j (u .path)
 
 -- both tables have an item at position k, and of the same name
 unfoldable pub agreeAt : Table → Table → ℕ → Bool

@@ -17,40 +17,33 @@ use Rattle.reader.proofs.Agree.{expression-on, statement-on, block-on}
 use Rattle.nodes.specs.Stands.{BlockAt}
 use Rattle.nodes.proofs.Laws.{below, statement-is, block-is, statement-holds, block-holds}
 use Rattle.rules.specs.Result.{ok}
-use Rattle.rules.specs.Walk.{walk}
+use Rattle.rules.specs.Walk.{walkStatement, walk}
 use Rattle.usage.specs.Path.{tableOf}
 use Rattle.analyze.specs.State.{tablesWith, Ready, InUse, Told, nextIn, branchIn}
 use Rattle.analyze.proofs.State.{moved-refused, turned-says, turned-branch}
-use Rattle.analyze.proofs.Statements.{moved-as, moved-stop, moved-on, moved-end, statement-below, at-next, expression-below, Going, first, head-within, going-err, going-on, going-as, going-end, if-parts, if-holds, conditioned, block-stops, if-only, else-parts}
-use Rattle.analyze.proofs.Walking.{read-here, read-next, put-back, put-nowhere, in-use, tables-same, else-stops, else-passes, crossed-within}
+use Rattle.analyze.proofs.Statements.{moved-as, moved-stop, moved-on, moved-end, statement-below, at-next, expression-below, Going, first, head-within, going-err, going-on, going-as, going-end, if-parts, if-holds, conditioned, block-stops, if-only, else-parts, ElseLeft}
+use Rattle.analyze.proofs.Walking.{read-here, put-back, put-nowhere, in-use, tables-same, else-stops, else-passes, crossed-within}
 use borrow.Fn.Kinds.{In}
 use borrow.Fn.PlainCycle.{Measures, is, falls, and}
 use Rattle.analyze.proofs.walk.analyze_block.Reads as analyze-block
 use Rattle.analyze.proofs.walk.analyze_block.Kinds as analyze-block-kinds
-use Rattle.analyze.proofs.walk.+analyze_block+analyze_else+analyze_if.Lts-analyze_block as analyze-block-lts
-use Rattle.analyze.proofs.walk.analyze_else.Reads as analyze-else
-use Rattle.analyze.proofs.walk.analyze_else.Kinds as analyze-else-kinds
-use Rattle.analyze.proofs.walk.+analyze_block+analyze_else+analyze_if.Lts-analyze_else as analyze-else-lts
+use Rattle.analyze.proofs.walk.+analyze_block+analyze_if.Lts-analyze_block as analyze-block-lts
 use Rattle.analyze.proofs.walk.analyze_if.Reads as analyze-if
 use Rattle.analyze.proofs.walk.analyze_if.Kinds as analyze-if-kinds
-use Rattle.analyze.proofs.walk.+analyze_block+analyze_else+analyze_if.Lts-analyze_if as analyze-if-lts
+use Rattle.analyze.proofs.walk.+analyze_block+analyze_if.Lts-analyze_if as analyze-if-lts
 use Rattle.analyze.proofs.walk.analyze_statement.Reads as analyze-statement-reads
-use Rattle.analyze.proofs.walk.cross.Reads as cross-reads
+use Rattle.analyze.proofs.walk.cross_to.Reads as cross-to-reads
 use Rattle.analyze.proofs.walk.examine_at.Reads as examine-at-reads
 use Rattle.analyze.proofs.walk.path_in_use.Reads as path-in-use-reads
 use Rattle.analyze.proofs.walk.put_branch.Reads as put-branch-reads
 use Rattle.analyze.proofs.walk.put_pass.Reads as put-pass-reads
 use Rattle.analyze.proofs.walk.refuse.Reads as refuse-reads
 use Rattle.nodes.proofs.block_at.Reads as block-at-reads
-use Rattle.analyze.proofs.walk.+analyze_block+analyze_else+analyze_if.{statement}
-use Rattle.analyze.proofs.walk.+analyze_block+analyze_else+analyze_if.Tie.{close}
+use Rattle.analyze.proofs.walk.+analyze_block+analyze_if.{statement}
+use Rattle.analyze.proofs.walk.+analyze_block+analyze_if.Tie.{close}
 
 abbrev μ-analyze-block : Measures 4 analyze-block-kinds.ps ℕ
 μ-analyze-block κs a = length (a .1 .0 .now) - a .1 .1 .1 .0
-
--- the else-block stands at the next row, and is walked at the same row
-abbrev μ-analyze-else : Measures 4 analyze-else-kinds.ps ℕ
-μ-analyze-else κs a = suc (length (a .1 .0 .now) - nextIn (a .1 .1 .1 .1 .1 .1 .1 .0 .now))
 
 abbrev μ-analyze-if : Measures 4 analyze-if-kinds.ps ℕ
 μ-analyze-if κs a = length (a .1 .0 .now) - a .1 .1 .1 .1 .1 .0
@@ -66,18 +59,6 @@ analyze-block-below t =
     analyze-block-kinds.ps
     (falls 4 analyze-block-kinds.ps _<_ μ-analyze-block t)
     analyze-block.Pre
-
-abbrev analyze-else-at : ℕ → In 4 analyze-else-kinds.ps
-analyze-else-at t =
-    and 4 analyze-else-kinds.ps (is 4 analyze-else-kinds.ps μ-analyze-else t) analyze-else.Pre
-
-abbrev analyze-else-below : ℕ → In 4 analyze-else-kinds.ps
-analyze-else-below t =
-    and
-    4
-    analyze-else-kinds.ps
-    (falls 4 analyze-else-kinds.ps _<_ μ-analyze-else t)
-    analyze-else.Pre
 
 abbrev analyze-if-at : ℕ → In 4 analyze-if-kinds.ps
 analyze-if-at t =
@@ -105,20 +86,6 @@ analyze-block-calls t = (
   put-pass-reads.Learnt,
 )
 
-abbrev analyze-else-calls : ℕ → analyze-else-lts.Claims
-analyze-else-calls t = (
-  path-in-use-reads.Asked,
-  path-in-use-reads.Learnt,
-  cross-reads.Asked,
-  cross-reads.Learnt,
-  refuse-reads.Asked,
-  refuse-reads.Learnt,
-  put-branch-reads.Asked,
-  put-branch-reads.Learnt,
-  analyze-block-below t,
-  analyze-block.Post,
-)
-
 abbrev analyze-if-calls : ℕ → analyze-if-lts.Claims
 analyze-if-calls t = (
   examine-at-reads.Asked,
@@ -127,8 +94,10 @@ analyze-if-calls t = (
   refuse-reads.Learnt,
   analyze-block-below t,
   analyze-block.Post,
-  analyze-else-below t,
-  analyze-else.Post,
+  cross-to-reads.Asked,
+  cross-to-reads.Learnt,
+  put-branch-reads.Asked,
+  put-branch-reads.Learnt,
 )
 
 abbrev analyze-block-Inv-loop : analyze-block-lts.InvT-loop
@@ -410,101 +379,6 @@ analyze-block-returns-5 t c =
     let e = going-end (l .inv .5 b j sp) (omega arith) in
     moved-end (a .d) _ _ (l .out) _ (l .inv .2) (kept .ready) (e .0 ∙ ap (λ ts. ok (record { tables = ts; branch = branchIn (l .out) })) (sym (kept .tables)), e .1) (c .before .before .put-pass .ensures)
 
-analyze-else-element-copy-out-branch : (t : ℕ) → analyze-else-lts.Need-element-copy-out-branch (analyze-else-calls t) (analyze-else-at t) analyze-else.Post
-analyze-else-element-copy-out-branch t c = search needs
-
-analyze-else-add-next : (t : ℕ) → analyze-else-lts.Need-add-next (analyze-else-calls t) (analyze-else-at t) analyze-else.Post
-analyze-else-add-next t c = search needs
-
-analyze-else-cast-path-in-use : (t : ℕ) → analyze-else-lts.Need-cast-path-in-use (analyze-else-calls t) (analyze-else-at t) analyze-else.Post
-analyze-else-cast-path-in-use t c = search needs
-
-analyze-else-mul-path-in-use : (t : ℕ) → analyze-else-lts.Need-mul-path-in-use (analyze-else-calls t) (analyze-else-at t) analyze-else.Post
-analyze-else-mul-path-in-use t c = search needs
-
-analyze-else-array-copy-out-path-in-use :
-    (t : ℕ) → analyze-else-lts.Need-array-copy-out-path-in-use (analyze-else-calls t) (analyze-else-at t) analyze-else.Post
-analyze-else-array-copy-out-path-in-use t c = search needs
-
-analyze-else-path-in-use-requires : (t : ℕ) → analyze-else-lts.Need-path-in-use-requires (analyze-else-calls t) (analyze-else-at t) analyze-else.Post
-analyze-else-path-in-use-requires t c κs = c .before .before .before .before .before .pre .1 .1 .few
-
-analyze-else-element-copy-out-cross : (t : ℕ) → analyze-else-lts.Need-element-copy-out-cross (analyze-else-calls t) (analyze-else-at t) analyze-else.Post
-analyze-else-element-copy-out-cross t c = search needs
-
-analyze-else-cross-requires : (t : ℕ) → analyze-else-lts.Need-cross-requires (analyze-else-calls t) (analyze-else-at t) analyze-else.Post
-analyze-else-cross-requires t c κs =
-    let a = c .before .before .before .before .before .before .before .args in
-    let s = a .listing .now in
-    let t = a .table .now in
-    let pre = c .before .before .before .before .before .before .before .pre .1 in
-    let n = branchIn (a .out .now) in
-    let r = pre .1 in
-    let load = read-next (a .d) (a .t6) (a .taken .now) n (r .few) (c .before .path-in-use .ensures .0) in
-    (pre .3, in-use s t (a .d) (a .t6) (a .taken .now) (suc n) r load, r .few)
-
-analyze-else-enum-known-a : (t : ℕ) → analyze-else-lts.Need-enum-known-a (analyze-else-calls t) (analyze-else-at t) analyze-else.Post
-analyze-else-enum-known-a t c = search needs
-
-analyze-else-refuse-requires : (t : ℕ) → analyze-else-lts.Need-refuse-requires (analyze-else-calls t) (analyze-else-at t) analyze-else.Post
-analyze-else-refuse-requires t c κs =
-    let pre = c .before .before .before .before .before .before .before .before .before .before .before .before .before .pre .1 in
-    (pre .1 .taken-full, pre .2)
-
-analyze-else-enum-told : (t : ℕ) → analyze-else-lts.Need-enum-told (analyze-else-calls t) (analyze-else-at t) analyze-else.Post
-analyze-else-enum-told t c = search needs
-
-analyze-else-put-branch-requires : (t : ℕ) → analyze-else-lts.Need-put-branch-requires (analyze-else-calls t) (analyze-else-at t) analyze-else.Post
-analyze-else-put-branch-requires t c κs = search needs
-
-analyze-else-element-copy-out-other : (t : ℕ) → analyze-else-lts.Need-element-copy-out-other (analyze-else-calls t) (analyze-else-at t) analyze-else.Post
-analyze-else-element-copy-out-other t c = search needs
-
-analyze-else-analyze-block-requires : (t : ℕ) → analyze-else-lts.Need-analyze-block-requires (analyze-else-calls t) (analyze-else-at t) analyze-else.Post
-analyze-else-analyze-block-requires t c κs =
-    let a = c .before .before .before .before .before .before .before .before .before .before .before .before .before .before .before .args in
-    let s = a .listing .now in
-    let t = a .table .now in
-    let pre = c .before .before .before .before .before .before .before .before .before .before .before .before .before .before .before .pre .1 in
-    let n = branchIn (a .out .now) in
-    let r = pre .1 in
-    let T = c .before .before .before .before .before .before .before .cross .ensures in
-    let is = c .before .before .before .before .before .enum-told .given .1 in
-    let within = crossed-within s t (a .d) n _ (a .loc) (tableOf s t (a .from)) _ T is in
-    let put = c .before .before .before .put-branch .ensures in
-    let says = turned-says (a .out .now) _ [] (pre .2) in
-    let on = ap nextIn put ∙ says .1 in
-    let turn : branchIn (c .before .before .before .put-branch .last .0) ≡ suc n = ap branchIn put ∙ turned-branch (a .out .now) _ (pre .2) ∙ omega (arith, within, r .few) in
-    (omega (arith, c .before .before .before .before .before .before .before .before .before .before .before .before .before .before .before .pre .0, on), (subst (BlockAt s t) (sym on) (pre .0), r, ap length put ∙ says .2, subst (λ k. InUse s t (a .d) k (c .before .before .before .before .before .before .before .cross .result .path)) (sym turn) (T .passes _ is .1 .in-use)))
-
-analyze-else-returns : (t : ℕ) → analyze-else-lts.Need-returns (analyze-else-calls t) (analyze-else-at t) analyze-else.Post
-analyze-else-returns t c =
-    let a = c .before .before .before .before .before .before .before .before .before .before .before .before .before .before .args in
-    let s = a .listing .now in
-    let t = a .table .now in
-    let pre = c .before .before .before .before .before .before .before .before .before .before .before .before .before .before .pre .1 in
-    let n = branchIn (a .out .now) in
-    let r = pre .1 in
-    let load = read-next (a .d) (a .t6) (a .taken .now) n (r .few) (c .before .before .before .before .before .before .before .before .path-in-use .ensures .0) in
-    λ b j sp. else-stops s t (a .d) n _ (a .loc) (tableOf s t (a .from)) (a .t6) (a .taken .now) r load (c .before .before .before .before .before .before .cross .result) (c .before .before .before .before .before .before .cross .ensures) b j (c .before .before .before .before .a .given .1) (c .refuse .ensures)
-
-analyze-else-returns-2 : (t : ℕ) → analyze-else-lts.Need-returns-2 (analyze-else-calls t) (analyze-else-at t) analyze-else.Post
-analyze-else-returns-2 t c =
-    let a = c .before .before .before .before .before .before .before .before .before .before .before .before .before .before .before .before .args in
-    let s = a .listing .now in
-    let t = a .table .now in
-    let pre = c .before .before .before .before .before .before .before .before .before .before .before .before .before .before .before .before .pre .1 in
-    let n = branchIn (a .out .now) in
-    let r = pre .1 in
-    let load = read-next (a .d) (a .t6) (a .taken .now) n (r .few) (c .before .before .before .before .before .before .before .before .before .before .path-in-use .ensures .0) in
-    let T = c .before .before .before .before .before .before .before .before .cross .ensures in
-    let is = c .before .before .before .before .before .before .enum-told .given .1 in
-    let within = crossed-within s t (a .d) n _ (a .loc) (tableOf s t (a .from)) _ T is in
-    let put = c .before .before .before .before .put-branch .ensures in
-    let on = ap nextIn put ∙ turned-says (a .out .now) _ [] (pre .2) .1 in
-    let turn : branchIn (c .before .before .before .before .put-branch .last .0) ≡ suc n = ap branchIn put ∙ turned-branch (a .out .now) _ (pre .2) ∙ omega (arith, within, r .few) in
-    λ b j sp. else-passes s t (a .d) n _ (a .loc) (tableOf s t (a .from)) (a .t6) (a .taken .now) r load (c .before .before .before .before .before .before .before .before .cross .result) T b j is turn (c .analyze-block .ensures b j (subst (λ k. SpellsBlock (lineIn t) s k b j) (sym on) sp))
-
 analyze-if-element-copy-out-examine-at : (t : ℕ) → analyze-if-lts.Need-element-copy-out-examine-at (analyze-if-calls t) (analyze-if-at t) analyze-if.Post
 analyze-if-element-copy-out-examine-at t c = search needs
 
@@ -592,24 +466,95 @@ analyze-if-returns-2 t c =
     let m₂ = c .before .before .before .analyze-block .ensures (P .block) (P .end) (subst (λ k. SpellsBlock (lineIn t) s k (P .block) (P .end)) (sym at) (P .inner)) in
     if-only s t (a .d) (a .rows) (a .taken .now) (branchIn (a .out .now)) (a .path) (c .before .before .before .before .before .before .before .before .before .before .examine-at .result .path) P C (not-true _ (c .if2 .taken)) m₂
 
-analyze-if-analyze-else-requires : (t : ℕ) → analyze-if-lts.Need-analyze-else-requires (analyze-if-calls t) (analyze-if-at t) analyze-if.Post
-analyze-if-analyze-else-requires t c κs =
-    let a = c .before .before .before .before .before .before .before .before .before .before .before .before .before .before .before .before .args in
+-- where the walk of an if stands when its block has passed
+analyze-if-left :
+    (t₀ : ℕ) (c : analyze-if-lts.Else2 (analyze-if-calls t₀) (analyze-if-at t₀) analyze-if.Post) →
+    let a = c .before .before .before .before .before .before .before .before .before .before .before .before .before .before .args in
+    let to = c .before .before .before .analyze-block in
+    ElseLeft (a .listing .now) (a .table .now) (a .d) (a .loc) (a .i) (λ x. walkStatement x (a .d .target) (tablesWith (a .listing .now) (a .table .now) (a .d) (a .rows) (a .taken .now) (branchIn (a .out .now)) (a .path)) (branchIn (a .out .now))) (c .before .before .before .before .before .before .before .before .before .before .examine-at .result .path) (to .result) (to .last .1 .1 .1 .1 .1 .1 .0) (to .last .1 .1 .1 .1 .1 .1 .1 .0)
+analyze-if-left t₀ c =
+    let a = c .before .before .before .before .before .before .before .before .before .before .before .before .before .before .args in
     let s = a .listing .now in
     let t = a .table .now in
-    let pre = c .before .before .before .before .before .before .before .before .before .before .before .before .before .before .before .before .pre .1 in
+    let pre = c .before .before .before .before .before .before .before .before .before .before .before .before .before .before .pre .1 in
     let st = pre .0 in
-    let line = pre .4 ∙ ap (λ h. Line.Statement (StatementLine.IfStatement (a .loc) h)) (not-false _ (c .before .before .if2 .left)) in
-    let P = if-parts (lineIn t) s (a .loc) true (a .i) (st .tree) (st .next) (statement-is (st .spells) line) in
-    let T = c .before .before .before .before .before .before .before .before .before .before .before .before .examine-at .ensures (P .cond) (P .mid) (P .spells) in
-    let on = T .passes _ (c .before .before .before .before .before .before .before .before .before .before .a2 .given .1) in
-    let at : c .before .before .before .before .before .before .before .before .before .before .a2 .given .0 .0 % 4294967296 ≡ P .mid = omega (arith, on .0, block-on _ _ (P .inner), P .within, st .within, st .rows .few) in
-    let C = conditioned s t (a .d) (a .loc) (P .cond) (a .rows) (a .taken .now) (branchIn (a .out .now)) (a .path) (c .before .before .before .before .before .before .before .before .before .before .before .before .examine-at .result .path) (on .1) in
-    let m₂ = c .before .before .before .before .before .analyze-block .ensures (P .block) (P .end) (subst (λ k. SpellsBlock (lineIn t) s k (P .block) (P .end)) (sym at) (P .inner)) in
-    let z₂ = c .before .before .before .if1 .left in
-    let E = else-parts s t (a .d) (a .rows) (a .taken .now) (branchIn (a .out .now)) (a .path) (c .before .before .before .before .before .before .before .before .before .before .before .before .examine-at .result .path) P C m₂ z₂ in
-    let room = statement-holds st .room in
-    (omega (arith, c .before .before .before .before .before .before .before .before .before .before .before .before .before .before .before .before .pre .0, m₂ .next z₂, expression-on _ _ (P .spells), block-on _ _ (P .inner)), (subst (BlockAt s t) (sym (m₂ .next z₂)) (below (SpellsBlock (lineIn t) s) st (E .spells) (omega arith)), m₂ .ready z₂, m₂ .full, on .1 .in-use (C .within) .formed))
+    let q = c .before .before .before .before .before .before .before .before .before .before .examine-at .result .path in
+    let next = c .before .before .before .before .before .before .before .before .a2 .given .0 .0 in
+    let line = pre .4 ∙ ap (λ h. Line.Statement (StatementLine.IfStatement (a .loc) h)) (not-false _ (c .if2 .left)) in
+    let z = c .before .if1 .left in
+    let P₀ = if-parts (lineIn t) s (a .loc) true (a .i) (st .tree) (st .next) (statement-is (st .spells) line) in
+    let on₀ = c .before .before .before .before .before .before .before .before .before .before .examine-at .ensures (P₀ .cond) (P₀ .mid) (P₀ .spells) .passes _ (c .before .before .before .before .before .before .before .before .a2 .given .1) in
+    let low : next < 4294967296 = omega (arith, on₀ .0, block-on _ _ (P₀ .inner), P₀ .within, st .within, st .rows .few) in
+    let at₀ : next % 4294967296 ≡ P₀ .mid = omega (arith, low, on₀ .0) in
+    let C₀ = conditioned s t (a .d) (a .loc) (P₀ .cond) (a .rows) (a .taken .now) (branchIn (a .out .now)) (a .path) q (on₀ .1) in
+    let m₀ = c .before .before .before .analyze-block .ensures (P₀ .block) (P₀ .end) (subst (λ k. SpellsBlock (lineIn t) s k (P₀ .block) (P₀ .end)) (sym at₀) (P₀ .inner)) in
+    let E₀ = else-parts s t (a .d) (a .rows) (a .taken .now) (branchIn (a .out .now)) (a .path) q P₀ C₀ m₀ z in
+    record {
+      ready = m₀ .ready z;
+      full = m₀ .full;
+      formed = on₀ .1 .in-use (C₀ .within) .formed;
+      stands = subst (BlockAt s t) (sym (m₀ .next z)) (below (SpellsBlock (lineIn t) s) st (E₀ .spells) (omega arith));
+      further = omega (arith, m₀ .next z, expression-on _ _ (P₀ .spells), block-on _ _ (P₀ .inner));
+      rest = λ x j sp.
+          let P = if-parts (lineIn t) s (a .loc) true (a .i) x j (statement-is sp line) in
+          let on = c .before .before .before .before .before .before .before .before .before .before .examine-at .ensures (P .cond) (P .mid) (P .spells) .passes _ (c .before .before .before .before .before .before .before .before .a2 .given .1) in
+          let at : next % 4294967296 ≡ P .mid = omega (arith, low, on .0) in
+          let C = conditioned s t (a .d) (a .loc) (P .cond) (a .rows) (a .taken .now) (branchIn (a .out .now)) (a .path) q (on .1) in
+          let m = c .before .before .before .analyze-block .ensures (P .block) (P .end) (subst (λ k. SpellsBlock (lineIn t) s k (P .block) (P .end)) (sym at) (P .inner)) in
+          let E = else-parts s t (a .d) (a .rows) (a .taken .now) (branchIn (a .out .now)) (a .path) q P C m z in
+          (E .block, subst (λ k. SpellsBlock (lineIn t) s k (E .block) j) (sym (m .next z)) (E .spells), E .same);
+    }
+
+analyze-if-element-copy-out-cross-to : (t : ℕ) → analyze-if-lts.Need-element-copy-out-cross-to (analyze-if-calls t) (analyze-if-at t) analyze-if.Post
+analyze-if-element-copy-out-cross-to t c = search needs
+
+analyze-if-cross-to-requires : (t : ℕ) → analyze-if-lts.Need-cross-to-requires (analyze-if-calls t) (analyze-if-at t) analyze-if.Post
+analyze-if-cross-to-requires t₀ c κs =
+    let L = analyze-if-left t₀ (c .before .before) in
+    (L .formed, L .ready)
+
+analyze-if-enum-known-b : (t : ℕ) → analyze-if-lts.Need-enum-known-b (analyze-if-calls t) (analyze-if-at t) analyze-if.Post
+analyze-if-enum-known-b t c = search needs
+
+analyze-if-refuse-requires-2 : (t : ℕ) → analyze-if-lts.Need-refuse-requires-2 (analyze-if-calls t) (analyze-if-at t) analyze-if.Post
+analyze-if-refuse-requires-2 t₀ c κs =
+    let L = analyze-if-left t₀ (c .before .before .before .before .before .before .before .before) in
+    (L .ready .taken-full, L .full)
+
+analyze-if-enum-told : (t : ℕ) → analyze-if-lts.Need-enum-told (analyze-if-calls t) (analyze-if-at t) analyze-if.Post
+analyze-if-enum-told t c = search needs
+
+analyze-if-element-copy-out-to : (t : ℕ) → analyze-if-lts.Need-element-copy-out-to (analyze-if-calls t) (analyze-if-at t) analyze-if.Post
+analyze-if-element-copy-out-to t c = search needs
+
+analyze-if-add-to : (t : ℕ) → analyze-if-lts.Need-add-to (analyze-if-calls t) (analyze-if-at t) analyze-if.Post
+analyze-if-add-to t c = search needs
+
+analyze-if-put-branch-requires : (t : ℕ) → analyze-if-lts.Need-put-branch-requires (analyze-if-calls t) (analyze-if-at t) analyze-if.Post
+analyze-if-put-branch-requires t c κs = search needs
+
+analyze-if-element-copy-out-other : (t : ℕ) → analyze-if-lts.Need-element-copy-out-other (analyze-if-calls t) (analyze-if-at t) analyze-if.Post
+analyze-if-element-copy-out-other t c = search needs
+
+analyze-if-analyze-block-requires-2 : (t : ℕ) → analyze-if-lts.Need-analyze-block-requires-2 (analyze-if-calls t) (analyze-if-at t) analyze-if.Post
+analyze-if-analyze-block-requires-2 t₀ c κs =
+    let w = c .before .before .before .before .before .before .before .before .before .before .before in
+    let a = w .before .before .before .before .before .before .before .before .before .before .before .before .before .before .args in
+    let s = a .listing .now in
+    let t = a .table .now in
+    let q = w .before .before .before .before .before .before .before .before .before .before .examine-at .result .path in
+    let out = w .before .before .before .analyze-block .last .1 .1 .1 .1 .1 .1 .1 .0 in
+    let L = analyze-if-left t₀ w in
+    let n = branchIn out in
+    let T = c .before .before .before .before .before .before .before .before .cross-to .ensures in
+    let is = c .before .before .before .before .before .before .enum-told .given .1 in
+    let within = crossed-within s t (a .d) n _ (a .loc) (tableOf s t q) _ T is in
+    let put = c .before .before .before .put-branch .ensures in
+    let says = turned-says out _ [] (L .full) in
+    let on = ap nextIn put ∙ says .1 in
+    let turn : branchIn (c .before .before .before .put-branch .last .0) ≡ suc n = ap branchIn put ∙ turned-branch out _ (L .full) ∙ omega (arith, within, L .ready .few) in
+    let room = statement-holds (w .before .before .before .before .before .before .before .before .before .before .before .before .before .before .pre .1 .0) .room in
+    (omega (arith, w .before .before .before .before .before .before .before .before .before .before .before .before .before .before .pre .0, on, L .further), (subst (BlockAt s t) (sym on) (L .stands), L .ready, ap length put ∙ says .2, subst (λ k. InUse s t (a .d) k (c .before .before .before .before .before .before .before .before .cross-to .result .path)) (sym turn) (T .passes _ is .1 .in-use)))
 
 analyze-if-returns-3 : (t : ℕ) → analyze-if-lts.Need-returns-3 (analyze-if-calls t) (analyze-if-at t) analyze-if.Post
 analyze-if-returns-3 t c =
@@ -624,30 +569,45 @@ analyze-if-returns-3 t c =
     moved-refused (c .refuse .ensures) (P .stops (a .d .target) _ _ _ (T .stops _ (c .before .before .before .before .a .given .1) (a .rows) (a .taken .now)))
 
 analyze-if-returns-4 : (t : ℕ) → analyze-if-lts.Need-returns-4 (analyze-if-calls t) (analyze-if-at t) analyze-if.Post
-analyze-if-returns-4 t c =
-    let a = c .before .before .before .before .before .before .before .before .before .before .before .before .before .before .before .before .before .args in
+analyze-if-returns-4 t₀ c =
+    let w = c .before .before .before .before .before .before .before .before .before in
+    let a = w .before .before .before .before .before .before .before .before .before .before .before .before .before .before .args in
     let s = a .listing .now in
     let t = a .table .now in
-    let pre = c .before .before .before .before .before .before .before .before .before .before .before .before .before .before .before .before .before .pre .1 in
-    let st = pre .0 in
-    let line = pre .4 ∙ ap (λ h. Line.Statement (StatementLine.IfStatement (a .loc) h)) (not-false _ (c .before .before .before .if2 .left)) in
-    let P₀ = if-parts (lineIn t) s (a .loc) (a .has-else) (a .i) (st .tree) (st .next) (statement-is (st .spells) (pre .4)) in
-    let on₀ = c .before .before .before .before .before .before .before .before .before .before .before .before .before .examine-at .ensures (P₀ .cond) (P₀ .mid) (P₀ .spells) .passes _ (c .before .before .before .before .before .before .before .before .before .before .before .a2 .given .1) in
-    let low : c .before .before .before .before .before .before .before .before .before .before .before .a2 .given .0 .0 < 4294967296 = omega (arith, on₀ .0, block-on _ _ (P₀ .inner), P₀ .within, st .within, st .rows .few) in
+    let q = w .before .before .before .before .before .before .before .before .before .before .examine-at .result .path in
+    let rows = w .before .before .before .analyze-block .result in
+    let taken = w .before .before .before .analyze-block .last .1 .1 .1 .1 .1 .1 .0 in
+    let out = w .before .before .before .analyze-block .last .1 .1 .1 .1 .1 .1 .1 .0 in
+    let L = analyze-if-left t₀ w in
     λ x j sp.
-    let P = if-parts (lineIn t) s (a .loc) true (a .i) x j (statement-is sp line) in
-    let T = c .before .before .before .before .before .before .before .before .before .before .before .before .before .examine-at .ensures (P .cond) (P .mid) (P .spells) in
-    let on = T .passes _ (c .before .before .before .before .before .before .before .before .before .before .before .a2 .given .1) in
-    let at : c .before .before .before .before .before .before .before .before .before .before .before .a2 .given .0 .0 % 4294967296 ≡ P .mid = omega (arith, low, on .0) in
-    let C = conditioned s t (a .d) (a .loc) (P .cond) (a .rows) (a .taken .now) (branchIn (a .out .now)) (a .path) (c .before .before .before .before .before .before .before .before .before .before .before .before .before .examine-at .result .path) (on .1) in
-    let m₂ = c .before .before .before .before .before .before .analyze-block .ensures (P .block) (P .end) (subst (λ k. SpellsBlock (lineIn t) s k (P .block) (P .end)) (sym at) (P .inner)) in
-    let z₂ = c .before .before .before .before .if1 .left in
-    let E = else-parts s t (a .d) (a .rows) (a .taken .now) (branchIn (a .out .now)) (a .path) (c .before .before .before .before .before .before .before .before .before .before .before .before .before .examine-at .result .path) P C m₂ z₂ in
-    moved-as (c .analyze-else .ensures (E .block) j (subst (λ k. SpellsBlock (lineIn t) s k (E .block) j) (sym (m₂ .next z₂)) (E .spells))) (sym (E .same)) refl
+    let E = L .rest x j sp in
+    moved-as (else-stops s t (a .d) (branchIn out) _ (a .loc) (tableOf s t q) rows taken (L .ready) (λ _. refl) (c .before .before .before .before .before .before .cross-to .result) (c .before .before .before .before .before .before .cross-to .ensures) (E .0) j (c .before .before .before .before .b .given .1) (c .refuse2 .ensures)) (sym (E .2)) refl
 
-pub +analyze-block+analyze-else+analyze-if-spec : {M : Type 1} → statement M
-+analyze-block+analyze-else+analyze-if-spec =
-    close μ-analyze-block μ-analyze-else μ-analyze-if (λ t. analyze-block-lts.spec (analyze-block-calls t)
+analyze-if-returns-5 : (t : ℕ) → analyze-if-lts.Need-returns-5 (analyze-if-calls t) (analyze-if-at t) analyze-if.Post
+analyze-if-returns-5 t₀ c =
+    let w = c .before .before .before .before .before .before .before .before .before .before .before .before in
+    let a = w .before .before .before .before .before .before .before .before .before .before .before .before .before .before .args in
+    let s = a .listing .now in
+    let t = a .table .now in
+    let q = w .before .before .before .before .before .before .before .before .before .before .examine-at .result .path in
+    let rows = w .before .before .before .analyze-block .result in
+    let taken = w .before .before .before .analyze-block .last .1 .1 .1 .1 .1 .1 .0 in
+    let out = w .before .before .before .analyze-block .last .1 .1 .1 .1 .1 .1 .1 .0 in
+    let L = analyze-if-left t₀ w in
+    let n = branchIn out in
+    let T = c .before .before .before .before .before .before .before .before .before .cross-to .ensures in
+    let is = c .before .before .before .before .before .before .before .enum-told .given .1 in
+    let within = crossed-within s t (a .d) n _ (a .loc) (tableOf s t q) _ T is in
+    let put = c .before .before .before .before .put-branch .ensures in
+    let on = ap nextIn put ∙ turned-says out _ [] (L .full) .1 in
+    let turn : branchIn (c .before .before .before .before .put-branch .last .0) ≡ suc n = ap branchIn put ∙ turned-branch out _ (L .full) ∙ omega (arith, within, L .ready .few) in
+    λ x j sp.
+    let E = L .rest x j sp in
+    moved-as (else-passes s t (a .d) n _ (a .loc) (tableOf s t q) rows taken (L .ready) (λ _. refl) (c .before .before .before .before .before .before .before .before .before .cross-to .result) T (E .0) j is turn (c .analyze-block2 .ensures (E .0) j (subst (λ k. SpellsBlock (lineIn t) s k (E .0) j) (sym on) (E .1)))) (sym (E .2)) refl
+
+pub +analyze-block+analyze-if-spec : {M : Type 1} → statement M
++analyze-block+analyze-if-spec =
+    close μ-analyze-block μ-analyze-if (λ t. analyze-block-lts.spec (analyze-block-calls t)
     (analyze-block-at t)
     analyze-block.Post
     analyze-block-Inv-loop
@@ -697,25 +657,6 @@ pub +analyze-block+analyze-else+analyze-if-spec : {M : Type 1} → statement M
     (analyze-block-element-write-taken t)
     (analyze-block-returns-4 t)
     (analyze-block-returns-5 t))
-    (λ t. analyze-else-lts.spec (analyze-else-calls t)
-    (analyze-else-at t)
-    analyze-else.Post
-    (analyze-else-element-copy-out-branch t)
-    (analyze-else-add-next t)
-    (analyze-else-cast-path-in-use t)
-    (analyze-else-mul-path-in-use t)
-    (analyze-else-array-copy-out-path-in-use t)
-    (analyze-else-path-in-use-requires t)
-    (analyze-else-element-copy-out-cross t)
-    (analyze-else-cross-requires t)
-    (analyze-else-enum-known-a t)
-    (analyze-else-refuse-requires t)
-    (analyze-else-enum-told t)
-    (analyze-else-put-branch-requires t)
-    (analyze-else-element-copy-out-other t)
-    (analyze-else-analyze-block-requires t)
-    (analyze-else-returns t)
-    (analyze-else-returns-2 t))
     λ t. analyze-if-lts.spec (analyze-if-calls t)
     (analyze-if-at t)
     analyze-if.Post
@@ -730,6 +671,16 @@ pub +analyze-block+analyze-else+analyze-if-spec : {M : Type 1} → statement M
     (analyze-if-element-copy-out-if1 t)
     (analyze-if-returns t)
     (analyze-if-returns-2 t)
-    (analyze-if-analyze-else-requires t)
+    (analyze-if-element-copy-out-cross-to t)
+    (analyze-if-cross-to-requires t)
+    (analyze-if-enum-known-b t)
+    (analyze-if-refuse-requires-2 t)
+    (analyze-if-enum-told t)
+    (analyze-if-element-copy-out-to t)
+    (analyze-if-add-to t)
+    (analyze-if-put-branch-requires t)
+    (analyze-if-element-copy-out-other t)
+    (analyze-if-analyze-block-requires-2 t)
     (analyze-if-returns-3 t)
     (analyze-if-returns-4 t)
+    (analyze-if-returns-5 t)
