@@ -1,6 +1,6 @@
 //! Check and Report of the examiner, through its two C exports (crates/bithoven_examiner/include/bithoven_examiner.h).
 //!
-//! A call takes up to 2.2 MB of stack: make it on a thread that has more.
+//! A call takes up to 0.9 MB of stack: make it on a thread that has more.
 
 extern "C" {
     fn bithoven_check(listing: *const u8, length: usize, answer: *mut u32) -> u32;
