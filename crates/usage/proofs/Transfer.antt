@@ -14,23 +14,25 @@ use lib.ListN.{length, getD, take, drop, set, getElem?, List·getD-map}
 use Rattle.ast.specs.declared.Location.{Location}
 use Rattle.ast.specs.declared.ErrorKind.the-variants.{DeclarationPathMismatch}
 use Rattle.ast.specs.Tree.{same, StackParam}
-use Rattle.text.specs.Text.{part}
-use Rattle.rows.specs.Rows.{lineIn}
 use Rattle.rules.specs.Result.{ok, refuse}
 use Rattle.rules.specs.Table.{Entry, Table}
 use Rattle.rules.specs.Usage.{free, mark as markEntry}
 use Rattle.rules.specs.Transfer.{placed, untaken, run, handOne, hand, transfer}
-use Rattle.names.specs.declared.Item.{Item}
-use Rattle.names.specs.Items.{lineOf, itemIn}
-use Rattle.names.proofs.Laws.{item-is}
+use Rattle.names.specs.Items.{itemIn}
 use Rattle.usage.specs.declared.NamePlace.{NamePlace}
 use Rattle.usage.specs.declared.Path.{Path}
 use Rattle.usage.specs.Taken.{bitAt, freeIn, firstFree, runIn, isRun}
 use Rattle.usage.specs.Path.{takenBy, tableFrom, tableOf, noPlace, WellFormed, SameItems, marked}
-use Rattle.usage.specs.Tables.{agreeAt}
 use Rattle.usage.proofs.Bits.{parity, free-even, free-odd, run-even, run-odd}
 use Rattle.usage.proofs.Tables.{entryAt, entry-at, mark-at, marked-items, marked-sound, table-length}
 use Rattle.usage.proofs.Walks.{same-items, items-then}
+
+-- both tables have an item at position k, and of the same name
+unfoldable pub agreeAt : Table → Table → ℕ → Bool
+agreeAt t n k = elim (getElem? t k) [
+  | none ↦ false
+  | some e ↦ elim (getElem? n k) [ none ↦ false | some c ↦ same (e .param .identifier) (c .param .identifier) ]
+]
 
 and-false : (b : Bool) → (b && false) ≡ false
 and-false true = refl
@@ -230,9 +232,9 @@ module _ {s t : List ℕ} {p q : Path} (v : WellFormed s t p) (w : WellFormed s 
       go none e = sym (rw (entry-of v k h, agreeAt) (rw e))
       go (some c) e = absurd (omega (arith, at-below (tableOf s t q) k e, table-length s t (q .places) (q .taken) (q .count)))
 
-  pub agree-here : k < q .count → (a b : Item) → lineIn t (getD (p .places) k noPlace .row) ≡ lineOf a → lineIn t (getD (q .places) k noPlace .row) ≡ lineOf b → same (part s (a .name)) (part s (b .name)) ≡ agreeAt (tableOf s t p) (tableOf s t q) k
+  pub agree-here : k < q .count → same (itemIn s t (getD (p .places) k noPlace .row) .identifier) (itemIn s t (getD (q .places) k noPlace .row) .identifier) ≡ agreeAt (tableOf s t p) (tableOf s t q) k
   unfolding agreeAt entryAt
-  agree-here g a b x y = sym (rw (entry-of v k h, agreeAt) (rw (entry-of w k g) (ap₂ (λ (m n : _). same (m .identifier) (n .identifier)) (item-is s t (getD (p .places) k noPlace .row) a x) (item-is s t (getD (q .places) k noPlace .row) b y))))
+  agree-here g = sym (rw (entry-of v k h, agreeAt) (rw (entry-of w k g)))
 
 -- the loop over the run of `from`: its first k items are taken in q, which began as `to`
 pub record Handing (s t : List ℕ) (from to : Path) (k : ℕ) (q : Path) : Type 0 where

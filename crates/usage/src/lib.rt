@@ -20,9 +20,10 @@ ghost use Rattle.reader.specs.Reading.{item};
 ghost use Rattle.reader.specs.Spells.{SpellsItems};
 ghost use Rattle.rules.specs.Unused.{unused};
 ghost use Rattle.rules.specs.Transfer.{transfer};
-ghost use Rattle.names.specs.Items.{ItemsAt};
+ghost use Rattle.names.specs.Items.{ItemsAt, NamedRow, itemIn};
+ghost use Rattle.ast.specs.Tree.{same};
 ghost use lib.ListN.{replicate};
-ghost use Rattle.usage.specs.Tables.{noPlace, Built, agreeAt};
+ghost use Rattle.usage.specs.Tables.{noPlace, Built};
 ghost use Rattle.limits.specs.Somewhere.{Somewhere};
 ghost use Rattle.ast.specs.Tree.{Expression, Factor};
 ghost use Rattle.usage.specs.Walk.{SpellsExpressions, ExpressionsAt, usageAll, FactorParts, PartsAre, Walks};
@@ -350,17 +351,11 @@ pub fn check_unused_variable(table: &[u32], path: Path) -> Checked
     Checked::Ok
 }
 
-// Whether both paths have an item at position k, and of the same name.
-fn same_item(listing: &[u8], table: &[u32], from: Path, to: Path, k: u32) -> bool
-    requires { ⌜ WellFormed (now listing) (now table) from × WellFormed (now listing) (now table) to × (k < from .count) ⌝ }
-    ensures { λ r. ⌜ r ≡ agreeAt (tableOf (now (listing .entry)) (now (table .entry)) from) (tableOf (now (listing .entry)) (now (table .entry)) to) k ⌝ }
+// Whether the items of two places have the same name.
+fn same_item(listing: &[u8], table: &[u32], p: NamePlace, q: NamePlace) -> bool
+    requires { ⌜ NamedRow (now listing) (now table) (p .row) × NamedRow (now listing) (now table) (q .row) ⌝ }
+    ensures { λ r. ⌜ r ≡ same (itemIn (now (listing .entry)) (now (table .entry)) (p .row) .identifier) (itemIn (now (listing .entry)) (now (table .entry)) (q .row) .identifier) ⌝ }
 {
-    if to.count <= k {
-        return false;
-    }
-    let at = k as usize;
-    let p = from.places[at];
-    let q = to.places[at];
     let a = item_at(table, p.row as usize);
     let b = item_at(table, q.row as usize);
     let x = a.name;
@@ -388,14 +383,18 @@ pub fn transfer_prefix_consumption(
     let mut out = to;
     let mut k: u32 = 0;
     while k < run {
-        if !same_item(listing, table, from, to, k) {
+        if to.count <= k {
             return refuse(to, ErrorKind::DeclarationPathMismatch, loc);
         }
         let at = k as usize;
         let p = from.places[at];
-        let q = out.places[at];
+        let q = to.places[at];
+        if !same_item(listing, table, p, q) {
+            return refuse(to, ErrorKind::DeclarationPathMismatch, loc);
+        }
+        let held = out.places[at];
         out.places[at] = NamePlace {
-            row: q.row,
+            row: held.row,
             line: p.line,
         };
         out.taken = with_bit(out.taken, k);

@@ -1,66 +1,47 @@
-use mathlib.Core.Path.{_∙_}
-use Rattle.names.proofs.Laws.{name-inside}
-use Rattle.usage.proofs.Tables.{row-named}
-use Rattle.usage.proofs.Transfer.{agree-past, agree-here}
+use mathlib.Core.Path.{sym, ap₂, _∙_}
 use borrow.Author.Needs.{needs}
+use Rattle.ast.specs.Tree.{same}
+use Rattle.names.proofs.Laws.{name-inside, item-is}
 use Rattle.usage.proofs.same_item.Statement.{statement}
 use Rattle.usage.proofs.same_item.Tie as tie
-
-returns : tie.Need-returns
-returns c = agree-past (c .before .before .before .pre .0) (c .before .before .before .pre .1) (c .before .before .before .pre .2) (c .if1 .taken)
-
-mul-p : tie.Need-mul-p
-mul-p c = search needs
-
-element-copy-out-p : tie.Need-element-copy-out-p
-element-copy-out-p c = search needs
-
-mul-q : tie.Need-mul-q
-mul-q c = search needs
-
-element-copy-out-q : tie.Need-element-copy-out-q
-element-copy-out-q c = search needs
 
 cast-item-at : tie.Need-cast-item-at
 cast-item-at c = search needs
 
 item-at-requires : tie.Need-item-at-requires
-item-at-requires c κs = row-named (c .before .before .before .before .before .before .pre .0) _ (c .before .before .before .before .before .before .pre .2) .holds
+item-at-requires c κs = search needs
 
 cast-item-at-2 : tie.Need-cast-item-at-2
 cast-item-at-2 c = search needs
 
 item-at-requires-2 : tie.Need-item-at-requires-2
-item-at-requires-2 c κs = row-named (c .before .before .before .before .before .before .before .before .pre .1) _ (c .before .before .before .before .before .if1 .left) .holds
+item-at-requires-2 c κs = search needs
 
 same-name-requires : tie.Need-same-name-requires
 same-name-requires c κs =
-    let b = c .before .before .before .before .before .before .before .before .before .before .before in
-    let lis = b .args .listing .now in
-    let tab = b .args .table .now in
+    let b = c .before .before .before .before .before .before .before .before in
+    let s = b .args .listing .now in
+    let t = b .args .table .now in
     let first = c .before .before .before .before .item-at in
     let second = c .before .before .item-at2 in
-    (name-inside lis tab (first .result) (row-named (b .pre .0) _ (b .pre .2)) (first .ensures), name-inside lis tab (second .result) (row-named (b .pre .1) _ (c .before .before .before .before .before .before .before .before .if1 .left)) (second .ensures))
+    (name-inside s t (first .result) (b .pre .0) (first .ensures), name-inside s t (second .result) (b .pre .1) (second .ensures))
 
-returns-2 : tie.Need-returns-2
-returns-2 c =
-    let b = c .before .before .before .before .before .before .before .before .before .before .before .before in
+returns : tie.Need-returns
+returns c =
+    let a = c .before .before .before .before .before .before .before .before .before .args in
+    let s = a .listing .now in
+    let t = a .table .now in
     let first = c .before .before .before .before .before .item-at in
     let second = c .before .before .before .item-at2 in
-    c .same-name .ensures ∙ agree-here (b .pre .0) (b .pre .1) (b .pre .2) (c .before .before .before .before .before .before .before .before .before .if1 .left) (first .result) (second .result) (first .ensures) (second .ensures)
+    c .same-name .ensures ∙ sym (ap₂ (λ m n. same (m .identifier) (n .identifier)) (item-is s t (a .p .row) (first .result) (first .ensures)) (item-is s t (a .q .row) (second .result) (second .ensures)))
 
 pub same-item-spec : {M : Type 1} → statement M
 same-item-spec =
     tie.close
     (tie.spec
-    returns
-    mul-p
-    element-copy-out-p
-    mul-q
-    element-copy-out-q
     cast-item-at
     item-at-requires
     cast-item-at-2
     item-at-requires-2
     same-name-requires
-    returns-2)
+    returns)
