@@ -198,6 +198,17 @@ module _ {L : ℕ → Line} {s : List ℕ} {g : Target} {count k i j : ℕ} {who
   unfolding walk
   going-on {m} w e q = record { block = first .tail; spells = subst (λ x. SpellsStatements L s (count - (k + 1)) x (first .tail) j) (sym q) (first .rest); same = sym (ap (λ b. walk b g ts n) (first .is) ∙ rw (e, walk)) ∙ h .same }
 
+  -- it is the last one: its walk is the block's
+  pub going-last : count - (k + 1) ≡ 0 → (walkStatement (first .head) g ts n ≡ whole) × (first .mid ≡ j)
+  unfolding walk
+  going-last e =
+      let z = no-statements e (first .rest) in
+      (go (walkStatement (first .head) g ts n) refl ∙ sym (ap (λ b. walk b g ts n) (first .is ∙ ap (λ b. first .head ∷ᵇ b) (z .0))) ∙ h .same, z .1)
+    where
+      go : (w : Result Walk) → walkStatement (first .head) g ts n ≡ w → walkStatement (first .head) g ts n ≡ walk (first .head ∷ᵇ []ᵇ) g ts n
+      go (ok w) e = e ∙ sym (rw (e, walk))
+      go (err x) e = e ∙ sym (rw (e, walk))
+
 pub going-as : {L : ℕ → Line} {s : List ℕ} {g : Target} {left i j : ℕ} {whole : Result Walk} {ts us : List Table} {n : ℕ} → Going L s g left i j whole ts n → us ≡ ts → Going L s g left i j whole us n
 going-as {g = g} {n = n} h e = record { block = h .block; spells = h .spells; same = ap (λ ts. walk (h .block) g ts n) e ∙ h .same }
 

@@ -34,7 +34,7 @@ use Rattle.usage.specs.Path.{tableOf, resultWith, resultOf, Onward, Walked}
 use Rattle.usage.proofs.Walks.{placed-on}
 use Rattle.analyze.specs.declared.Declared.{Declared}
 use Rattle.analyze.specs.declared.walk.Step.{Step}
-use Rattle.analyze.specs.State.{pathAt, tablesOf, tablesWith, PathReady, Ready, InUse, Tried, Told, OnlyFault, Moved, examined}
+use Rattle.analyze.specs.State.{pathAt, tablesOf, tablesWith, PathReady, Ready, InUse, Tried, On, Decided, Told, OnlyFault, Moved, examined}
 use Rattle.analyze.proofs.State.{moved-refused, items-same, path-count, element-set, set-there, set-past, table-at, table-past, tables-set, ready-set}
 use Rattle.analyze.proofs.Statements.{walkElse, moved-as}
 
@@ -141,20 +141,35 @@ module _ (s t : List ℕ) (d : Declared) (n : ℕ) {p q : Path} (e : n < d .coun
     stops = λ x a rows taken. ap (λ ts. w ts n) (sym (with-same rows taken)) ∙ T .stops x a rows taken;
   }
 
+-- on a path that is not declared
+pub examined-past : (s t : List ℕ) (d : Declared) (n : ℕ) (l : Location) (e : Expression) → d .count ≤ n → On s t d n (λ ts. examined (d .target) l e ts n) (λ ts. err (fault DeclarationPathMismatch l))
+examined-past s t d n l e h rows taken p u = tried-past s t d n p l e 0 (record { path = p; answer = Fault (fault DeclarationPathMismatch l) }) h refl .stops _ refl rows taken
+
 -- what the step of a statement says of it
-module _ (s t : List ℕ) {x : Statement} (i : ℕ) {j : ℕ} {l : Location} where
-  pub told-wait : {m : ℕ} {o : LocktimeOp} {v : Signed} (c : Checked) {r : Step} → x ≡ LocktimeStatement l m o v → j ≡ suc i → c ≡ wait l o v → (c ≡ Ok → r ≡ Step.Pass (i + 1)) → ((y : CompileError) → c ≡ Err y → r ≡ Step.Fault y) → Told s t x i j r
+module _ (s t : List ℕ) (d : Declared) (n : ℕ) (x : Statement) (i j : ℕ) (l : Location) where
+  pub told-wait : {m : ℕ} {o : LocktimeOp} {v : Signed} (c : Checked) {r : Step} → x ≡ LocktimeStatement l m o v → j ≡ suc i → c ≡ wait l o v → (c ≡ Ok → r ≡ Step.Pass (i + 1)) → ((y : CompileError) → c ≡ Err y → r ≡ Step.Fault y) → Told s t d n x i j r
   unfolding walkStatement
-  told-wait Ok h k said f g = subst (Told s t x i j) (sym (f refl)) (add-one i ∙ sym k, λ g ts n. ap (λ y. walkStatement y g ts n) h ∙ rw (sym said))
-  told-wait (Err y) h k said f g = subst (Told s t x i j) (sym (g y refl)) (λ g ts n. ap (λ y. walkStatement y g ts n) h ∙ rw (sym said))
+  told-wait Ok h k said f g = subst (Told s t d n x i j) (sym (f refl)) (add-one i ∙ sym k, λ rows taken p u. ap (λ y. walkStatement y (d .target) (tablesWith s t d rows taken n p) n) h ∙ rw (sym said))
+  told-wait (Err y) h k said f g = subst (Told s t d n x i j) (sym (g y refl)) (λ rows taken p u. ap (λ y. walkStatement y (d .target) (tablesWith s t d rows taken n p) n) h ∙ rw (sym said))
 
-  pub told-verify : {e : Expression} → x ≡ VerifyStatement l e → SpellsExpression (lineIn t) s (suc i) e j → Told s t x i j (Step.Examine l)
-  unfolding examined walkStatement
-  told-verify {e} h sp = (e, sp, λ g ts n. ap (λ y. walkStatement y g ts n) h)
+  -- a verify or a return: what is decided of its expression
+  module _ {e : Expression} (sp : SpellsExpression (lineIn t) s (suc i) e j) (r : Step) (D : Decided s t d n (λ ts. examined (d .target) l e ts n) l j r) where
+    told-as : ((ts : List Table) → walkStatement x (d .target) ts n ≡ examined (d .target) l e ts n) → Told s t d n x i j r
+    told-as same = go r D
+      where
+        go : (r : Step) → Decided s t d n (λ ts. examined (d .target) l e ts n) l j r → Told s t d n x i j r
+        go (Step.Pass m) D = (D .0, λ rows taken p u. same _ ∙ D .1 rows taken p u)
+        go (Step.Fault y) D = λ rows taken p u. same _ ∙ D rows taken p u
+        go (Step.Examine k) D = (e, sp, λ rows taken p u. same _ ∙ ap (λ k. examined (d .target) k e (tablesWith s t d rows taken n p) n) (sym D))
+        go (Step.If k h) D = absurd D
 
-  pub told-return : {e : Expression} → x ≡ ExpressionStatement l e → SpellsExpression (lineIn t) s (suc i) e j → Told s t x i j (Step.Examine l)
-  unfolding examined walkStatement
-  told-return {e} h sp = (e, sp, λ g ts n. ap (λ y. walkStatement y g ts n) h)
+    pub told-verify : x ≡ VerifyStatement l e → Told s t d n x i j r
+    unfolding examined walkStatement
+    told-verify h = told-as (λ ts. ap (λ y. walkStatement y (d .target) ts n) h)
+
+    pub told-return : x ≡ ExpressionStatement l e → Told s t d n x i j r
+    unfolding examined walkStatement
+    told-return h = told-as (λ ts. ap (λ y. walkStatement y (d .target) ts n) h)
 
 -- from the if-block on path n to the next path, whose table is p's; v is the table after the condition
 module _ (s t : List ℕ) (d : Declared) (n : ℕ) (p : Path) (l : Location) (v : Table) where

@@ -1,5 +1,5 @@
 -- The state of the walk over the statements: the rows of name places, the taken sets, and the answer in numbers.
-use Prim.Native.Nat.{ℕ, zero, suc, _+_, _≤_, _<_}
+use Prim.Native.Nat.{ℕ, zero, suc, _+_, _%_, _^_, _≤_, _<_}
 use mathlib.Core.Bool.{true, false}
 use mathlib.Core.List.{List, [], _∷_}
 use mathlib.Core.Path.{_≡_}
@@ -7,6 +7,7 @@ use lib.Dec.{eqb}
 use lib.ListN.{length, getD, set, replicate}
 use Rattle.ast.specs.declared.Location.{Location}
 use Rattle.ast.specs.declared.CompileError.{CompileError}
+use Rattle.ast.specs.declared.Checked.{Checked}
 use Rattle.ast.specs.Numbers.{kindFrom}
 use Rattle.ast.specs.declared.Target.{Target}
 use Rattle.ast.specs.Tree.{Declaration, Expression, Statement, fault, number}
@@ -14,9 +15,12 @@ use Rattle.listing.specs.declared.Line.{Line}
 use Rattle.listing.specs.declared.StatementLine.{StatementLine}
 use Rattle.rows.specs.Rows.{lineIn}
 use Rattle.reader.specs.Spells.{SpellsExpression}
+use Rattle.nodes.specs.declared.Answer.{Answer}
 use Rattle.nodes.specs.declared.Answer.the-variants.{Pass, Fault}
-use Rattle.rules.specs.Result.{Result, ok, err, _>>=_, _>>_}
+use Rattle.rules.specs.Result.{Result, ok, err, both, _>>=_, _>>_}
 use Rattle.rules.specs.Table.{Table, params, buildAll}
+use Rattle.rules.specs.Types.{truth}
+use Rattle.rules.specs.Limits.{security}
 use Rattle.rules.specs.Unused.{unusedAll}
 use Rattle.rules.specs.Walk.{Walked, examineAt, walkStatement}
 use Rattle.names.specs.Items.{ItemsAt, itemsDown}
@@ -99,6 +103,10 @@ pub record Moved (s t : List ℕ) (d : Declared) (w : Result Walked) (j : ℕ) (
   pub ready : getD out 0 0 ≡ 0 → Ready s t d rows taken
   pub refused : (getD out 0 0 ≡ 0 → ⊥) → OnlyFault (faultIn out) rows taken out
 
+-- an expression with the items of a path, its names apart: truth, then check_security
+abbrev pub judged : Target → Expression → Declaration → Checked
+judged g e ps = both (truth e g ps) (security e)
+
 -- a verify, return or condition on the path in use: its table is the one after the expression
 unfoldable pub examined : Target → Location → Expression → List Table → ℕ → Result Walked
 examined g l e ts n = examineAt g l e ts n >>= λ t. ok (record { tables = set ts n t; branch = n })
@@ -121,16 +129,28 @@ pub record Tried (s t : List ℕ) (d : Declared) (n : ℕ) (p : Path) (w : List 
   pub passes : (m : ℕ) → u .answer ≡ Pass m → (m ≡ j) × OnPath s t d n p w (u .path)
   pub stops : (x : CompileError) → u .answer ≡ Fault x → (rows : List (List NamePlace)) (taken : List ℕ) → w (tablesWith s t d rows taken n p) n ≡ err x
 
--- the walk of the statement x, on any tables and path, is w
-abbrev pub Walks : Statement → (Target → List Table → ℕ → Result Walked) → Type 0
-Walks x w = (g : Target) (ts : List Table) (n : ℕ) → walkStatement x g ts n ≡ w g ts n
+-- on path n, whatever path that can be used it is and whatever the others are, the rule f is w
+abbrev pub On : List ℕ → List ℕ → Declared → ℕ → (List Table → Result Walked) → (List Table → Result Walked) → Type 0
+On s t d n f w = (rows : List (List NamePlace)) (taken : List ℕ) (p : Path) → InUse s t d n p → f (tablesWith s t d rows taken n p) ≡ w (tablesWith s t d rows taken n p)
 
--- what a step says of the statement x, from row i up to j: it passes, is refused, examines an expression, or is an if
-abbrev pub Told : List ℕ → List ℕ → Statement → ℕ → ℕ → Step → Type 0
-Told s t x i j (Step.Pass m) = (m ≡ j) × Walks x (λ g ts n. ok (record { tables = ts; branch = n }))
-Told s t x i j (Step.Fault y) = Walks x (λ g ts n. err y)
-Told s t x i j (Step.Examine l) = (e : Expression) × SpellsExpression (lineIn t) s (suc i) e j × Walks x (λ g. examined g l e)
-Told s t x i j (Step.If l h) = lineIn t i ≡ Line.Statement (StatementLine.IfStatement l h)
+-- what a step says on path n of an expression at l that ends before row j, its rule being f: it passes, is refused, or is to be examined
+abbrev pub Decided : List ℕ → List ℕ → Declared → ℕ → (List Table → Result Walked) → Location → ℕ → Step → Type 0
+Decided s t d n f l j (Step.Pass m) = (m ≡ j) × On s t d n f (λ ts. ok (record { tables = ts; branch = n }))
+Decided s t d n f l j (Step.Fault y) = On s t d n f (λ ts. err y)
+Decided s t d n f l j (Step.Examine k) = k ≡ l
+Decided s t d n f l j (Step.If k h) = ⊥
+
+-- what a step says on path n of the statement x, from row i up to j: it passes, is refused, examines an expression, or is an if
+abbrev pub Told : List ℕ → List ℕ → Declared → ℕ → Statement → ℕ → ℕ → Step → Type 0
+Told s t d n x i j (Step.Pass m) = (m ≡ j) × On s t d n (λ ts. walkStatement x (d .target) ts n) (λ ts. ok (record { tables = ts; branch = n }))
+Told s t d n x i j (Step.Fault y) = On s t d n (λ ts. walkStatement x (d .target) ts n) (λ ts. err y)
+Told s t d n x i j (Step.Examine l) = (e : Expression) × SpellsExpression (lineIn t) s (suc i) e j × On s t d n (λ ts. walkStatement x (d .target) ts n) (λ ts. examined (d .target) l e ts n)
+Told s t d n x i j (Step.If l h) = lineIn t i ≡ Line.Statement (StatementLine.IfStatement l h)
+
+-- the row after what was passed, as a number of 32 bits; 0 after a fault
+abbrev pub rowAfter : Answer → ℕ
+rowAfter (Pass n) = n % 2 ^ 32
+rowAfter (Fault x) = 0
 
 -- numbers that say a pass to a row
 unfoldable pub passed : List ℕ → ℕ → List ℕ

@@ -3,15 +3,14 @@ ghost use mathlib.Core.Path.{_≡_};
 ghost use Prim.Native.Nat.{ℕ, _<_};
 ghost use lib.ListN.{getD};
 ghost use Rattle.ast.specs.Tree.{Expression};
-ghost use Rattle.nodes.specs.declared.Answer.{Answer};
 ghost use Rattle.rows.specs.Rows.{lineIn};
 ghost use Rattle.reader.specs.Spells.{SpellsExpression};
-ghost use Rattle.nodes.specs.Stands.{ExpressionAt};
+ghost use Rattle.nodes.specs.Stands.{ExpressionAt, walked};
+ghost use Rattle.names.specs.Items.{ItemsAt, itemsDown};
 ghost use Rattle.rules.specs.Walk.{examine as examineOf};
 ghost use Rattle.usage.specs.Path.{tableOf, Walked};
-ghost use Rattle.analyze.specs.State.{PathReady};
+ghost use Rattle.analyze.specs.State.{PathReady, judged};
 use crate::Declared;
-use ast::CompileError;
 use limits::check_security;
 use nodes::Answer;
 use types::Context;
@@ -20,15 +19,24 @@ use usage::Path;
 use usage::Used;
 use usage::check_variable;
 
-// A path with a fault for its answer.
-fn refused(u: Used, x: CompileError) -> Used
-    ensures { λ r. ⌜ r ≡ record { path = u .path; answer = Answer.Fault x } ⌝ }
+// The expression at row i with the types of declaration p: truth, then check_security.
+pub fn judge(listing: &[u8], table: &[u32], d: Declared, p: usize, i: usize) -> Answer
+    requires { ⌜ ExpressionAt (now listing) (now table) i × ItemsAt (now listing) (now table) (getD (d .counts) p 0) (getD (d .firsts) p 0) × (p < 32) ⌝ }
+    ensures { λ r. ⌜ ((e : Expression) (j : ℕ) → SpellsExpression (lineIn (now (table .entry))) (now (listing .entry)) i e j → r ≡ walked (judged (d .target) e (itemsDown (now (listing .entry)) (now (table .entry)) (getD (d .firsts) p 0) (getD (d .counts) p 0))) j) ⌝ }
 {
-    let path = u.path;
-    Used {
-        path,
-        answer: Answer::Fault(x),
-    }
+    let target = d.target;
+    let firsts = d.firsts;
+    let counts = d.counts;
+    let context = Context {
+        target,
+        first: firsts[p] as usize,
+        count: counts[p],
+    };
+    let typed = check_type_boolean(listing, table, context, i);
+    let Answer::Pass(_) = typed else {
+        return typed;
+    };
+    check_security(listing, table, i)
 }
 
 pub fn examine(listing: &[u8], table: &[u32], d: Declared, p: usize, i: usize, path: Path) -> Used
@@ -40,21 +48,10 @@ pub fn examine(listing: &[u8], table: &[u32], d: Declared, p: usize, i: usize, p
     let Answer::Pass(_) = answer else {
         return used;
     };
-    let target = d.target;
-    let firsts = d.firsts;
-    let counts = d.counts;
-    let context = Context {
-        target,
-        first: firsts[p] as usize,
-        count: counts[p],
-    };
-    let typed = check_type_boolean(listing, table, context, i);
-    if let Answer::Fault(x) = typed {
-        return refused(used, x);
+    let judged = judge(listing, table, d, p, i);
+    let after = used.path;
+    Used {
+        path: after,
+        answer: judged,
     }
-    let safe = check_security(listing, table, i);
-    if let Answer::Fault(x) = safe {
-        return refused(used, x);
-    }
-    used
 }

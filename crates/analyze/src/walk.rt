@@ -1,6 +1,6 @@
 // The statements of a contract, walked over its rows.
 ghost use mathlib.Core.Path.{_≡_};
-ghost use mathlib.Core.List.{List};
+ghost use mathlib.Core.Bool.{false};
 ghost use Prim.Native.Nat.{ℕ, suc, _<_, _≤_};
 ghost use lib.ListN.{length, getD, replicate};
 ghost use Rattle.ast.specs.declared.Checked.{Checked};
@@ -11,15 +11,17 @@ ghost use Rattle.listing.specs.declared.Line.{Line};
 ghost use Rattle.listing.specs.declared.StatementLine.{StatementLine};
 ghost use Rattle.rows.specs.Rows.{lineIn};
 ghost use Rattle.reader.specs.Spells.{SpellsExpression, SpellsStatement, SpellsBlock};
-ghost use Rattle.limits.specs.Somewhere.{Somewhere};
 ghost use Rattle.nodes.specs.declared.Answer.{Answer};
 ghost use Rattle.nodes.specs.Stands.{ExpressionAt, StatementAt, BlockAt};
+ghost use Rattle.names.specs.Items.{ItemsAt};
 ghost use Rattle.rules.specs.Walk.{cross as crossOf, walkStatement, walk};
+ghost use Rattle.usage.specs.Names.{hasNames};
 ghost use Rattle.usage.specs.Path.{tableOf, WellFormed, noPlace};
 ghost use Rattle.analyze.specs.declared.walk.Step.{Step};
-ghost use Rattle.analyze.specs.State.{pathAt, tablesWith, noneTaken, noRows, refusal, OnlyFault, Ready, InUse, Tried, Told, Moved, branchIn, examined, passed, turned};
+ghost use Rattle.analyze.specs.State.{pathAt, tablesWith, noneTaken, noRows, refusal, OnlyFault, Ready, InUse, Tried, Decided, Told, Moved, branchIn, examined, rowAfter, passed, turned};
 use crate::Declared;
 use crate::examine::examine;
+use crate::examine::judge;
 use ast::Checked;
 use ast::CompileError;
 use ast::ErrorKind;
@@ -33,6 +35,7 @@ use nodes::statement_at;
 use usage::NamePlace;
 use usage::Path;
 use usage::Used;
+use usage::has_names;
 use usage::transfer_prefix_consumption;
 
 // What a statement is to the walk: passed, refused, an expression to examine on the path in use, or an if.
@@ -226,17 +229,67 @@ fn wait_step(c: Checked, next: u32) -> Step
     }
 }
 
-// The statement at row i: a wait is checked here, the rest is left to the walk.
-fn analyze_statement(table: &[u32], i: u32) -> Step
-    requires { ⌜ Somewhere (λ s. StatementAt s (now table) i) ⌝ }
-    ensures { λ r. ⌜ ((s : List ℕ) (x : Statement) (j : ℕ) → SpellsStatement (lineIn (now (table .entry))) s i x j → Told s (now (table .entry)) x i j r) ⌝ }
+// An expression without names: truth and check_security decide, and the path stays as it is.
+fn judge_at(listing: &[u8], table: &[u32], d: Declared, loc: Location, branch: u32, i: u32) -> Step
+    requires { ⌜ ExpressionAt (now listing) (now table) i × (branch < d .count → ItemsAt (now listing) (now table) (getD (d .counts) branch 0) (getD (d .firsts) branch 0)) × (d .count ≤ 32) ⌝ }
+    ensures { λ r. ⌜ ((e : Expression) (j : ℕ) → SpellsExpression (lineIn (now (table .entry))) (now (listing .entry)) i e j → hasNames e ≡ false → Decided (now (listing .entry)) (now (table .entry)) d branch (λ ts. examined (d .target) loc e ts branch) loc j r) ⌝ }
+{
+    if d.count <= branch {
+        return Step::Fault(CompileError {
+            loc,
+            kind: ErrorKind::DeclarationPathMismatch,
+        });
+    }
+    let answer = judge(listing, table, d, branch as usize, i as usize);
+    match answer {
+        Answer::Pass(n) => Step::Pass((n % 4294967296) as u32),
+        Answer::Fault(x) => Step::Fault(x),
+    }
+}
+
+// A verify or a return, its expression at row i: only one with names is examined on the path in use.
+fn expression_step(
+    listing: &[u8],
+    table: &[u32],
+    d: Declared,
+    loc: Location,
+    branch: u32,
+    i: u32,
+) -> Step
+    requires { ⌜ ExpressionAt (now listing) (now table) i × (branch < d .count → ItemsAt (now listing) (now table) (getD (d .counts) branch 0) (getD (d .firsts) branch 0)) × (d .count ≤ 32) ⌝ }
+    ensures { λ r. ⌜ ((e : Expression) (j : ℕ) → SpellsExpression (lineIn (now (table .entry))) (now (listing .entry)) i e j → Decided (now (listing .entry)) (now (table .entry)) d branch (λ ts. examined (d .target) loc e ts branch) loc j r) ⌝ }
+{
+    if has_names(table, i as usize) {
+        return Step::Examine(loc);
+    }
+    judge_at(listing, table, d, loc, branch, i)
+}
+
+// The statement at row i, on the path `branch`: what does not touch the path is checked here, the rest is left to the walk.
+fn analyze_statement(listing: &[u8], table: &[u32], d: Declared, branch: u32, i: u32) -> Step
+    requires { ⌜ StatementAt (now listing) (now table) i × (branch < d .count → ItemsAt (now listing) (now table) (getD (d .counts) branch 0) (getD (d .firsts) branch 0)) × (d .count ≤ 32) ⌝ }
+    ensures { λ r. ⌜ ((x : Statement) (j : ℕ) → SpellsStatement (lineIn (now (table .entry))) (now (listing .entry)) i x j → Told (now (listing .entry)) (now (table .entry)) d branch x i j r) ⌝ }
 {
     let line = statement_at(table, i as usize);
     match line {
         StatementLine::LocktimeStatement(w, op, v) => wait_step(check_wait(w, op, v), i + 1),
-        StatementLine::VerifyStatement(w) => Step::Examine(w),
-        StatementLine::ExpressionStatement(w) => Step::Examine(w),
+        StatementLine::VerifyStatement(w) => {
+            expression_step(listing, table, d, w, branch, i + 1)
+        }
+        StatementLine::ExpressionStatement(w) => {
+            expression_step(listing, table, d, w, branch, i + 1)
+        }
         StatementLine::IfStatement(w, e) => Step::If(w, e),
+    }
+}
+
+// The row after what was passed; 0 after a fault.
+fn row_after(answer: Answer) -> u32
+    ensures { λ r. ⌜ r ≡ rowAfter answer ⌝ }
+{
+    match answer {
+        Answer::Pass(n) => (n % 4294967296) as u32,
+        Answer::Fault(_) => 0,
     }
 }
 
@@ -259,22 +312,23 @@ pub fn analyze_block(
     let mut k: u32 = 0;
     while k < count {
         k += 1;
-        let step = analyze_statement(table, next);
+        let step = analyze_statement(listing, table, d, out[6], next);
         match step {
             Step::Pass(n) => next = n,
             Step::Fault(x) => return refuse(taken, out, x),
             Step::Examine(w) => {
                 let used = examine_at(listing, table, d, w, out[6], next + 1, path);
                 let answer = used.answer;
-                match answer {
-                    Answer::Fault(x) => return refuse(taken, out, x),
-                    Answer::Pass(n) => {
-                        path = used.path;
-                        next = (n % 4294967296) as u32;
-                    }
+                if let Answer::Fault(x) = answer {
+                    return refuse(taken, out, x);
                 }
+                path = used.path;
+                next = row_after(answer);
             }
             Step::If(w, e) => {
+                if k == count {
+                    return analyze_if(listing, table, d, w, e, next, path, rows, taken, out);
+                }
                 rows = analyze_if(listing, table, d, w, e, next, path, rows, taken, out);
                 if out[0] != 0 {
                     return rows;

@@ -1,7 +1,7 @@
 // Enum numbers follow the order in src/ast.rs, from 0. A number past the last variant stands for the last.
 ghost use mathlib.Core.Path.{_≡_};
 ghost use lib.ListN.{getD};
-ghost use Rattle.ast.specs.Numbers.{targets, types, logicalOps, compareOps, mathOps, unaryOps, cryptoOps, locktimeOps, targetNumber, typeNumber, logicalNumber, compareNumber, mathNumber, unaryNumber, cryptoNumber, locktimeNumber, kindFrom};
+ghost use Rattle.ast.specs.Numbers.{targets, types, logicalOps, compareOps, mathOps, unaryOps, cryptoOps, locktimeOps, typeNumber, kindFrom};
 ghost use Rattle.ast.specs.Tree.{number};
 ghost use Rattle.ast.specs.declared.Target.the-variants.{Taproot};
 ghost use Rattle.ast.specs.declared.Type.the-variants.{Boolean};
@@ -20,16 +20,6 @@ use crate::Target;
 use crate::Type;
 use crate::UnaryCryptoOp;
 use crate::UnaryMathOp;
-
-pub fn target_number(t: Target) -> u32
-    ensures { λ r. ⌜ r ≡ targetNumber t ⌝ }
-{
-    match t {
-        Target::Legacy => 0,
-        Target::Segwit => 1,
-        Target::Taproot => 2,
-    }
-}
 
 pub fn target_from(n: u32) -> Target
     ensures { λ r. ⌜ r ≡ getD targets n Taproot ⌝ }
@@ -63,36 +53,12 @@ pub fn type_from(n: u32) -> Type
     }
 }
 
-pub fn logical_number(op: BinaryLogicalOp) -> u32
-    ensures { λ r. ⌜ r ≡ logicalNumber op ⌝ }
-{
-    match op {
-        BinaryLogicalOp::BoolOr => 0,
-        BinaryLogicalOp::BoolAnd => 1,
-    }
-}
-
 pub fn logical_from(n: u32) -> BinaryLogicalOp
     ensures { λ r. ⌜ r ≡ getD logicalOps n BoolAnd ⌝ }
 {
     match n {
         0 => BinaryLogicalOp::BoolOr,
         _ => BinaryLogicalOp::BoolAnd,
-    }
-}
-
-pub fn compare_number(op: BinaryCompareOp) -> u32
-    ensures { λ r. ⌜ r ≡ compareNumber op ⌝ }
-{
-    match op {
-        BinaryCompareOp::Equal => 0,
-        BinaryCompareOp::NotEqual => 1,
-        BinaryCompareOp::Greater => 2,
-        BinaryCompareOp::GreaterOrEqual => 3,
-        BinaryCompareOp::Less => 4,
-        BinaryCompareOp::LessOrEqual => 5,
-        BinaryCompareOp::NumEqual => 6,
-        BinaryCompareOp::NumNotEqual => 7,
     }
 }
 
@@ -111,17 +77,6 @@ pub fn compare_from(n: u32) -> BinaryCompareOp
     }
 }
 
-pub fn math_number(op: BinaryMathOp) -> u32
-    ensures { λ r. ⌜ r ≡ mathNumber op ⌝ }
-{
-    match op {
-        BinaryMathOp::Add => 0,
-        BinaryMathOp::Sub => 1,
-        BinaryMathOp::Max => 2,
-        BinaryMathOp::Min => 3,
-    }
-}
-
 pub fn math_from(n: u32) -> BinaryMathOp
     ensures { λ r. ⌜ r ≡ getD mathOps n Min ⌝ }
 {
@@ -130,18 +85,6 @@ pub fn math_from(n: u32) -> BinaryMathOp
         1 => BinaryMathOp::Sub,
         2 => BinaryMathOp::Max,
         _ => BinaryMathOp::Min,
-    }
-}
-
-pub fn unary_number(op: UnaryMathOp) -> u32
-    ensures { λ r. ⌜ r ≡ unaryNumber op ⌝ }
-{
-    match op {
-        UnaryMathOp::Add => 0,
-        UnaryMathOp::Sub => 1,
-        UnaryMathOp::Negate => 2,
-        UnaryMathOp::Abs => 3,
-        UnaryMathOp::Not => 4,
     }
 }
 
@@ -157,30 +100,12 @@ pub fn unary_from(n: u32) -> UnaryMathOp
     }
 }
 
-pub fn crypto_number(op: UnaryCryptoOp) -> u32
-    ensures { λ r. ⌜ r ≡ cryptoNumber op ⌝ }
-{
-    match op {
-        UnaryCryptoOp::Sha256 => 0,
-        UnaryCryptoOp::Ripemd160 => 1,
-    }
-}
-
 pub fn crypto_from(n: u32) -> UnaryCryptoOp
     ensures { λ r. ⌜ r ≡ getD cryptoOps n Ripemd160 ⌝ }
 {
     match n {
         0 => UnaryCryptoOp::Sha256,
         _ => UnaryCryptoOp::Ripemd160,
-    }
-}
-
-pub fn locktime_number(op: LocktimeOp) -> u32
-    ensures { λ r. ⌜ r ≡ locktimeNumber op ⌝ }
-{
-    match op {
-        LocktimeOp::Cltv => 0,
-        LocktimeOp::Csv => 1,
     }
 }
 

@@ -2,7 +2,7 @@
  *
  * Link with libbithoven_examiner.a (x86-64; `rt staticlib bithoven_examiner` writes it to target/staticlib/).
  *
- * STACK. A call takes up to 0.9 MB of stack, 64 KiB of it for work memory: make it on a thread that has 2 MB or more.
+ * STACK. A call takes up to 1.1 MB of stack, 64 KiB of it for work memory: make it on a thread that has 2 MB or more.
  * Nothing checks this at run time. docs/ARCHITECTURE.md says what was measured.
  *
  * Neither function allocates, keeps state, or reads or writes anything but its arguments; both may be called from several

@@ -41,12 +41,12 @@ unhex-none (a ∷ []) h = refl
 unhex-none (a ∷ b ∷ l) h = absurd (omega arith)
 
 -- whether the bytes are all hex digits: the first byte, and the rest
-module _ (s : List ℕ) (i n : ℕ) (h : i + n ≤ length s) (q : 1 < n) {v : ℕ} (e : v ≡ hexValue (getD s i 0) * 16 + hexValue (getD s (i + 1) 0)) where
-  pub digits-more : isDigit v ≡ true → allDigits (unhex (take (n - 2) (drop (i + 2) s))) ≡ allDigits (unhex (take n (drop i s)))
+module _ (s : List ℕ) (i n : ℕ) (h : i + n ≤ length s) (q : 1 < n) {b : Bool} (e : b ≡ isDigit (hexValue (getD s i 0) * 16 + hexValue (getD s (i + 1) 0))) where
+  pub digits-more : b ≡ true → allDigits (unhex (take (n - 2) (drop (i + 2) s))) ≡ allDigits (unhex (take n (drop i s)))
   unfolding allDigits
   digits-more d = rw (unhex-more s i n h q, ← e, d)
 
-  pub digits-none : isDigit v ≡ false → false ≡ allDigits (unhex (take n (drop i s)))
+  pub digits-none : b ≡ false → false ≡ allDigits (unhex (take n (drop i s)))
   unfolding allDigits
   digits-none d = rw (unhex-more s i n h q, ← e, d)
 

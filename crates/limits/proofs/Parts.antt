@@ -1,21 +1,19 @@
--- What stands below an expression, and a factor, from its line.
-use Prim.Native.Nat.{ℕ, suc, _+_, _-_, _≤_, _<_}
+-- What stands below an expression, from its line.
+use Prim.Native.Nat.{ℕ, suc, _+_}
 use native.Mathlib.Numerals.{add-one}
-use native.Mathlib.Omega.{arith}
 use mathlib.Core.List.{List}
-use mathlib.Core.Path.{_≡_, refl, sym, ap, _∙_, subst}
+use mathlib.Core.Path.{_≡_, sym, ap, _∙_, subst}
 use Rattle.ast.specs.declared.CompileError.{CompileError}
 use Rattle.ast.specs.declared.Checked.{Checked}
 use Rattle.ast.specs.declared.Checked.the-variants.{Err}
-use Rattle.ast.specs.Tree.{Expression, Factor, Factors}
+use Rattle.ast.specs.Tree.{Expression, Factor}
 use Rattle.listing.specs.declared.ExpressionLine.{ExpressionLine}
-use Rattle.listing.specs.declared.FactorLine.{FactorLine}
 use Rattle.listing.specs.declared.Line.{Line}
-use Rattle.reader.specs.Spells.{SpellsExpression, SpellsFactor, SpellsFactors}
-use Rattle.reader.proofs.Inversion.{ExpressionFrom, FactorFrom}
+use Rattle.reader.specs.Spells.{SpellsExpression, SpellsFactor}
+use Rattle.reader.proofs.Inversion.{ExpressionFrom}
 use Rattle.rules.specs.Result.{both}
 use Rattle.rules.specs.Limits.{security}
-use Rattle.nodes.proofs.Laws.{expression-is, factor-is}
+use Rattle.nodes.proofs.Laws.{expression-is}
 use Rattle.limits.specs.declared.Operands.{Operands}
 use Rattle.limits.specs.declared.Operands.the-variants.{Nothing, One, Two, Signatures}
 use Rattle.limits.specs.Lines.{operandsOf, overflow}
@@ -53,24 +51,3 @@ module _ (L : ℕ → Line) (s : List ℕ) where
   node-fault One n e j (a, u, p) = p
   node-fault Two n e j (a, b, k, u, v, p) = p
   node-fault Signatures n e j (f, u, p) = p
-
-  -- what stands after the line of a factor
-  abbrev pub PartsOf : FactorLine → ℕ → ℕ → Type 0
-  PartsOf (FactorLine.SingleSigFactor w) i j = (a : Expression) × (b : Expression) × (k : ℕ) × SpellsExpression L s (i + 1) a k × SpellsExpression L s k b j
-  PartsOf (FactorLine.MultiSigFactor w m n) i j = (fs : Factors) × SpellsFactors L s n (i + 1) fs j
-
-  parts-from : (i j : ℕ) (f : Factor) (x : FactorLine) → FactorFrom L s x i f j → PartsOf x i j
-  parts-from i j f (FactorLine.SingleSigFactor w) (a, b, k, u, v, p) = (a, b, k, rw add-one u, v)
-  parts-from i j f (FactorLine.MultiSigFactor w m n) (fs, u, p) = (fs, rw add-one u)
-
-  pub parts-are : {i j : ℕ} {f : Factor} {x y : FactorLine} → SpellsFactor L s i f j → L i ≡ Line.Factor x → x ≡ y → PartsOf y i j
-  parts-are {i} {j} {f} {x} sp h q = subst (λ y. PartsOf y i j) q (parts-from i j f x (factor-is sp h))
-
-  -- one factor, and the others
-  pub factors-more : {n i j : ℕ} {fs : Factors} → SpellsFactors L s n i fs j → 0 < n → (f : Factor) × (gs : Factors) × (k : ℕ) × SpellsFactor L s i f k × SpellsFactors L s (n - 1) k gs j
-  factors-more SpellsFactors.nil h = absurd (omega arith)
-  factors-more (SpellsFactors.cons {j = k} {n = m} {f = f} {fs = gs} u v) h = let e : suc m - 1 ≡ m = omega arith in (f, gs, k, u, rw e v)
-
-  pub factors-none : {n i j : ℕ} {fs : Factors} → SpellsFactors L s n i fs j → n ≤ 0 → i ≡ j
-  factors-none SpellsFactors.nil h = refl
-  factors-none (SpellsFactors.cons u v) h = absurd (omega arith)

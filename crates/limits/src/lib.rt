@@ -1,15 +1,15 @@
 // Bounds on numbers, literals and waits: 21.
 ghost use mathlib.Core.Path.{_≡_};
 ghost use mathlib.Core.List.{List};
-ghost use Prim.Native.Nat.{ℕ};
-ghost use Rattle.ast.specs.Tree.{Expression, Factor, Factors};
+ghost use Prim.Native.Nat.{ℕ, _+_, _*_, _≤_};
+ghost use lib.ListN.{length};
+ghost use Rattle.ast.specs.Tree.{Expression, Factor};
 ghost use Rattle.rows.specs.Rows.{lineIn};
-ghost use Rattle.reader.specs.Spells.{SpellsExpression, SpellsFactor, SpellsFactors};
+ghost use Rattle.reader.specs.Spells.{SpellsExpression, SpellsFactor};
 ghost use Rattle.rules.specs.Limits.{or21, upTo, wait, security};
-ghost use Rattle.listing.specs.declared.Line.{Line};
-ghost use Rattle.listing.specs.declared.ExpressionLine.{ExpressionLine};
-ghost use Rattle.nodes.specs.Stands.{walked, Holds, ExpressionAt, FactorAt, FactorsAt};
+ghost use Rattle.nodes.specs.Stands.{walked, ExpressionAt, FactorAt};
 ghost use Rattle.limits.specs.Lines.{operandsOf, overflow, PartWithin};
+ghost use Rattle.limits.specs.Nodes.{Node, SpellsNodes, NodesAt, partsBelow};
 ghost use Rattle.limits.specs.Somewhere.{Somewhere};
 use ast::Checked;
 use ast::CompileError;
@@ -18,10 +18,8 @@ use ast::Location;
 use ast::LocktimeOp;
 use ast::Signed;
 use listing::ExpressionLine;
-use listing::FactorLine;
 use nodes::Answer;
 use nodes::expression_at;
-use nodes::factor_at;
 use rows::row_in;
 
 pub mod literals; // literals.rt: the length of a literal
@@ -60,25 +58,6 @@ pub fn operands_of(e: ExpressionLine) -> Operands
         ExpressionLine::UnaryCryptoExpression(_, _) => Operands::One,
         ExpressionLine::ByteExpression(_) => Operands::One,
         ExpressionLine::CheckSigExpression(_) => Operands::Signatures,
-    }
-}
-
-// What follows the line of the expression at row i.
-fn operands_at(table: &[u32], i: usize) -> Operands
-    requires { ⌜ Holds Line.Expression (now table) i ⌝ }
-    ensures { λ r. ⌜ ((e : ExpressionLine) → lineIn (now (table .entry)) i ≡ Line.Expression e → r ≡ operandsOf e) ⌝ }
-{
-    let r = row_in(table, i);
-    let kind = r.kind;
-    match kind {
-        108 => Operands::Two,
-        99 => Operands::Two,
-        109 => Operands::Two,
-        117 => Operands::One,
-        104 => Operands::One,
-        122 => Operands::One,
-        103 => Operands::Signatures,
-        _ => Operands::Nothing,
     }
 }
 
@@ -137,14 +116,39 @@ pub fn check_wait(loc: Location, op: LocktimeOp, v: Signed) -> Checked
     }
 }
 
-// A check of what ends before row `next`, as a walk answers it.
-pub fn answer_of(c: Checked, next: usize) -> Answer
-    ensures { λ r. ⌜ r ≡ walked c next ⌝ }
+// How many expressions and factors stand directly below the line of row i.
+pub fn parts_below(table: &[u32], i: usize) -> u32
+    requires { ⌜ i * 9 + 9 ≤ length (now table) ⌝ }
+    ensures { λ r. ⌜ r ≡ partsBelow (lineIn (now (table .entry)) i) ⌝ }
 {
-    match c {
-        Checked::Ok => Answer::Pass(next),
-        Checked::Err(x) => Answer::Fault(x),
+    let r = row_in(table, i);
+    let kind = r.kind;
+    match kind {
+        108 => 2,
+        99 => 2,
+        109 => 2,
+        117 => 1,
+        104 => 1,
+        122 => 1,
+        103 => 1,
+        83 => 2,
+        77 => r.b,
+        _ => 0,
     }
+}
+
+// The row after n nodes, expressions or factors, one after the other. What stands below a line is counted among what is still due.
+fn skip_nodes(table: &[u32], i: usize, n: u32) -> usize
+    requires { ⌜ Somewhere (λ s. NodesAt s (now table) n i) ⌝ }
+    ensures { λ r. ⌜ ((s : List ℕ) (ns : List Node) (j : ℕ) → SpellsNodes (lineIn (now (table .entry))) s n i ns j → r ≡ j) ⌝ }
+{
+    let mut next = i;
+    let mut due = n;
+    while 0 < due {
+        due = due - 1 + parts_below(table, next);
+        next += 1;
+    }
+    next
 }
 
 // The row after an expression, whatever it says.
@@ -152,17 +156,7 @@ pub fn skip_expression(table: &[u32], i: usize) -> usize
     requires { ⌜ Somewhere (λ s. ExpressionAt s (now table) i) ⌝ }
     ensures { λ r. ⌜ ((s : List ℕ) (e : Expression) (j : ℕ) → SpellsExpression (lineIn (now (table .entry))) s i e j → r ≡ j) ⌝ }
 {
-    let operands = operands_at(table, i);
-    let first = i + 1;
-    match operands {
-        Operands::Nothing => first,
-        Operands::One => skip_expression(table, first),
-        Operands::Two => {
-            let second = skip_expression(table, first);
-            skip_expression(table, second)
-        }
-        Operands::Signatures => skip_factor(table, first),
-    }
+    skip_nodes(table, i, 1)
 }
 
 // The row after a factor.
@@ -170,52 +164,33 @@ pub fn skip_factor(table: &[u32], i: usize) -> usize
     requires { ⌜ Somewhere (λ s. FactorAt s (now table) i) ⌝ }
     ensures { λ r. ⌜ ((s : List ℕ) (f : Factor) (j : ℕ) → SpellsFactor (lineIn (now (table .entry))) s i f j → r ≡ j) ⌝ }
 {
-    let line = factor_at(table, i);
-    let first = i + 1;
-    match line {
-        FactorLine::SingleSigFactor(_) => {
-            let key = skip_expression(table, first);
-            skip_expression(table, key)
-        }
-        FactorLine::MultiSigFactor(_, _, n) => skip_factors(table, first, n),
-    }
+    skip_nodes(table, i, 1)
 }
 
-// The row after n factors.
-fn skip_factors(table: &[u32], i: usize, n: u32) -> usize
-    requires { ⌜ Somewhere (λ s. FactorsAt s (now table) n i) ⌝ }
-    ensures { λ r. ⌜ ((s : List ℕ) (fs : Factors) (j : ℕ) → SpellsFactors (lineIn (now (table .entry))) s n i fs j → r ≡ j) ⌝ }
-{
-    let mut next = i;
-    let mut left = n;
-    while 0 < left {
-        next = skip_factor(table, next);
-        left -= 1;
-    }
-    next
-}
-
-// An expression: the node, then its operands, left first; signature checks are not entered.
+// An expression: the node, then its operands, left first; signature checks are not entered. What stands below a line is counted among what is still due.
 pub fn check_security(listing: &[u8], table: &[u32], i: usize) -> Answer
     requires { ⌜ ExpressionAt (now listing) (now table) i ⌝ }
     ensures { λ r. ⌜ ((e : Expression) (j : ℕ) → SpellsExpression (lineIn (now (table .entry))) (now (listing .entry)) i e j → r ≡ walked (security e) j) ⌝ }
 {
-    let line = expression_at(table, i);
-    let node = answer_of(check_overflow(listing, line), i + 1);
-    let Answer::Pass(first) = node else {
-        return node;
-    };
-    let operands = operands_of(line);
-    match operands {
-        Operands::Nothing => node,
-        Operands::One => check_security(listing, table, first),
-        Operands::Two => {
-            let left = check_security(listing, table, first);
-            let Answer::Pass(second) = left else {
-                return left;
-            };
-            check_security(listing, table, second)
+    let mut next = i;
+    let mut due: u32 = 1;
+    while 0 < due {
+        let line = expression_at(table, next);
+        let c = check_overflow(listing, line);
+        if let Checked::Err(x) = c {
+            return Answer::Fault(x);
         }
-        Operands::Signatures => Answer::Pass(skip_factor(table, first)),
+        let operands = operands_of(line);
+        next += 1;
+        match operands {
+            Operands::Nothing => due -= 1,
+            Operands::One => {}
+            Operands::Two => due += 1,
+            Operands::Signatures => {
+                due -= 1;
+                next = skip_factor(table, next);
+            }
+        }
     }
+    Answer::Pass(next)
 }

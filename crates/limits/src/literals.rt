@@ -84,6 +84,16 @@ fn is_digit_run(listing: &[u8], at: usize) -> bool
     ok
 }
 
+// Whether two digits of the listing spell a hex digit. The test without a branch comes first.
+fn is_spelled_digit(a: u8, b: u8) -> bool
+    ensures { λ r. ⌜ r ≡ isDigit (hexValue a * 16 + hexValue b) ⌝ }
+{
+    if is_digit_pair(a, b) {
+        return true;
+    }
+    is_digit(byte_of(a, b))
+}
+
 // Whether the bytes that `len` digits of the listing spell, from `at` on, are all hex digits, pair by pair. Each digit is read at most once.
 fn digits_rest(listing: &[u8], at: usize, len: usize) -> bool
     requires { ⌜ at + len ≤ length (now listing) ⌝ }
@@ -92,8 +102,7 @@ fn digits_rest(listing: &[u8], at: usize, len: usize) -> bool
     let mut i = at;
     let mut left = len;
     while 1 < left {
-        let b = byte_of(listing[i], listing[i + 1]);
-        if !is_digit(b) {
+        if !is_spelled_digit(listing[i], listing[i + 1]) {
             return false;
         }
         i += 2;

@@ -1,7 +1,6 @@
--- What the forms of the code cite: fields read one after another, and byte 10 after them.
-use Prim.Native.Nat.{ℕ, suc, _+_, _≤_, _<_}
+-- What the code that reads lines cites: the fields of a form read one after another, byte 10 after them, and the letter before them.
+use Prim.Native.Nat.{ℕ, _+_, _≤_, _<_}
 use native.Mathlib.Numerals.{add-one}
-use native.Mathlib.Omega.{arith}
 use mathlib.Core.List.{List, [], _∷_}
 use mathlib.Core.Path.{_≡_, refl, sym, ap, _∙_}
 use borrow.Author.Tests.{ne-eqb}
@@ -9,21 +8,18 @@ use lib.ListN.{length, drop, getD, drop-of-length-le}
 use lib.Seq.{drop-cons}
 use Rattle.listing.specs.Ast.{Location}
 use Rattle.listing.specs.declared.Line.{Line}
-use Rattle.listing.specs.declared.Lexed.{Lexed}
 use Rattle.listing.specs.declared.Lexed.the-variants.{Good, Malformed, End}
 use Rattle.text.specs.declared.Skipped.{Skipped}
-use Rattle.listing.specs.declared.OperatorRead.{OperatorRead}
-use Rattle.text.specs.Text.{Got, got, failed, Reader, given, readAt, _>>=_, _>>_, _<$>_, yield, fail, newline, byte, index, choice, location}
-use Rattle.listing.specs.Forms.{with, Form, forms, fieldsOf, closed, line, nextOf, nextLine, lexed, lineAt, formAt}
-use Rattle.text.proofs.Places.{Keeps, location-keeps, index-keeps, got-place, bind-got, bind-failed}
-use Rattle.listing.proofs.Places.{with-keeps}
-use Rattle.text.proofs.Fields.{choice-got, choice-failed}
+use Rattle.text.specs.Text.{got, failed, Reader, readAt, _>>=_, _>>_, _<$>_, yield, fail, newline, byte, location}
+use Rattle.listing.specs.Forms.{with, with₂, Form, forms, fieldsOf, closed, line, nextOf, nextLine, lexed, lineAt, formAt}
+use Rattle.text.proofs.Places.{bind-got, bind-failed}
 use Rattle.text.proofs.Told.{skip-to, skip-failed}
+use Rattle.listing.proofs.Places.{fields-each}
 
--- a form whose fields are read, or fail
-pub form-got : (f : Reader Line) (s : List ℕ) (n : ℕ) {l k : Line} {m : ℕ} {x : Lexed} → f n (drop n s) ≡ got l m (drop m s) → x ≡ formAt (yield k) s m → k ≡ l → x ≡ formAt f s n
-unfolding formAt closed yield _>>=_
-form-got f s n {l} {k} {m} h e q = e ∙ ap (λ k. formAt (yield k) s m) q ∙ sym (ap (λ g. lexed (nextOf g)) (bind-got f (λ l. byte newline >> yield l) s n h))
+-- a form, from what its fields give: what another reader gives at its position, or nothing
+pub form-same : (f g : Reader Line) (s : List ℕ) (n m : ℕ) → f n (drop n s) ≡ g m (drop m s) → formAt g s m ≡ formAt f s n
+unfolding formAt closed _>>=_
+form-same f g s n m h = sym (rw (h, _>>=_))
 
 pub form-failed : (f : Reader Line) (s : List ℕ) (n : ℕ) → f n (drop n s) ≡ failed → Malformed ≡ formAt f s n
 unfolding formAt closed nextOf lexed
@@ -48,94 +44,29 @@ pub map-failed : {A B : Type 0} (f : A → B) (r : Reader A) (s : List ℕ) (n :
 unfolding _<$>_
 map-failed f r s n h = bind-failed r (λ a. yield (f a)) s n h
 
--- w and one more field
-module _ {A L : Type 0} (r : Reader A) (f : Location → A → L) (s : List ℕ) (n : ℕ) where
-  pub with-unplaced : location n (drop n s) ≡ failed → with r f n (drop n s) ≡ failed
-  unfolding with
-  with-unplaced h = bind-failed location (λ w. r >>= λ a. yield (f w a)) s n h
+-- w, and what follows it
+pub placed-got : {A L : Type 0} (f : A → L) (g : Location → Reader A) (s : List ℕ) (n : ℕ) {w : Location} {m : ℕ} → location n (drop n s) ≡ got w m (drop m s) → (f <$> (location >>= g)) n (drop n s) ≡ (f <$> g w) m (drop m s)
+unfolding _<$>_ _>>=_
+placed-got f g s n h = rw (h, _>>=_)
 
-  pub with-failed : {w : Location} {k : ℕ} → location n (drop n s) ≡ got w k (drop k s) → r k (drop k s) ≡ failed → with r f n (drop n s) ≡ failed
-  unfolding with
-  with-failed {w} {k} h e = bind-got location (λ w. r >>= λ a. yield (f w a)) s n h ∙ bind-failed r (λ a. yield (f w a)) s k e
+-- where no w stands, none of the forms that have one does
+module _ (s : List ℕ) (n : ℕ) (h : location n (drop n s) ≡ failed) where
+  placed-failed : {A : Type 0} (g : Location → Reader A) → (location >>= g) n (drop n s) ≡ failed
+  placed-failed g = bind-failed location g s n h
 
-  pub with-got : {w : Location} {k : ℕ} {a : A} {m : ℕ} → location n (drop n s) ≡ got w k (drop k s) → r k (drop k s) ≡ got a m (drop m s) → with r f n (drop n s) ≡ got (f w a) m (drop m s)
-  unfolding with yield
-  with-got {w} {k} h e = bind-got location (λ w. r >>= λ a. yield (f w a)) s n h ∙ bind-got r (λ a. yield (f w a)) s k e
+  mapped-failed : {A : Type 0} (f : A → Line) (g : Location → Reader A) → (f <$> (location >>= g)) n (drop n s) ≡ failed
+  mapped-failed f g = map-failed f (location >>= g) s n (placed-failed g)
 
--- w and an enum number, and what follows them; `xs` are the variants
-module _ {A L : Type 0} (xs : List A) (g : Location → A → Reader L) (s : List ℕ) (n : ℕ) where
-  abbrev numbered : Reader (Location × ℕ)
-  numbered = with (index (length xs)) (λ w v. (w, v))
+  pub unplaced-failed : (b : ℕ) → (b ≡ 84 → ⊥) → (b ≡ 68 → ⊥) → (b ≡ 66 → ⊥) → fieldsOf forms b n (drop n s) ≡ failed
+  unfolding with with₂ _<$>_ fail
+  unplaced-failed b t d k =
+      fields-each
+      (λ r. r n (drop n s) ≡ failed)
+      b
+      forms
+      (λ e. absurd (t (sym e)), (λ e. absurd (d (sym e)), (λ e. placed-failed _, (λ e. absurd (k (sym e)), (λ e. mapped-failed _ _, (λ e. mapped-failed _ _, (λ e. mapped-failed _ _, (λ e. mapped-failed _ _, (λ e. mapped-failed _ _, (λ e. mapped-failed _ _, (λ e. mapped-failed _ _, (λ e. mapped-failed _ _, (λ e. mapped-failed _ _, (λ e. mapped-failed _ _, (λ e. mapped-failed _ _, (λ e. mapped-failed _ _, (λ e. mapped-failed _ _, (λ e. mapped-failed _ _, (λ e. mapped-failed _ _, (λ e. mapped-failed _ _, (λ e. mapped-failed _ _, refl)))))))))))))))))))))
 
-  abbrev chosen : Reader L
-  chosen = location >>= λ w. choice xs >>= g w
-
-  pub chosen-failed : numbered n (drop n s) ≡ failed → chosen n (drop n s) ≡ failed
-  unfolding with yield _>>=_
-  chosen-failed h = go (location n (drop n s)) refl
-    where
-      inner : (w : Location) (k : ℕ) → location n (drop n s) ≡ got w k (drop k s) → (y : Got ℕ) → index (length xs) k (drop k s) ≡ y → chosen n (drop n s) ≡ failed
-      inner w k e (got a m u) p = let f : _≡_ {A = Got (Location × ℕ)} (got (w, a) m u) failed = rw (e, p, _>>=_) at h in let o : _≡_ {A = ℕ} 0 1 = cc in absurd (omega arith)
-      inner w k e failed p = bind-got location (λ w. choice xs >>= g w) s n e ∙ bind-failed (choice xs) (g w) s k (choice-failed xs s k p)
-
-      go : (y : Got Location) → location n (drop n s) ≡ y → chosen n (drop n s) ≡ failed
-      go (got w k t) e = inner w k (got-place location location-keeps s n e) (index (length xs) k (drop k s)) refl
-      go failed e = bind-failed location (λ w. choice xs >>= g w) s n e
-
-  pub chosen-got : (d : A) {w : Location} {v m : ℕ} → numbered n (drop n s) ≡ got (w, v) m (drop m s) → chosen n (drop n s) ≡ g w (getD xs v d) m (drop m s)
-  unfolding with yield _>>=_
-  chosen-got d {w} {v} {m} h = go (location n (drop n s)) refl
-    where
-      inner : (x : Location) (k : ℕ) → location n (drop n s) ≡ got x k (drop k s) → (y : Got ℕ) → index (length xs) k (drop k s) ≡ y → chosen n (drop n s) ≡ g w (getD xs v d) m (drop m s)
-      inner x k e (got a j u) p =
-          let f : _≡_ {A = Got (Location × ℕ)} (got (x, a) j u) (got (w, v) m (drop m s)) = rw (e, p, _>>=_) at h in
-          let both : _≡_ {A = Location × ℕ} (x, a) (w, v) = cc in
-          let x-is : x ≡ w = ap (λ b. b .0) both in
-          let a-is : a ≡ v = ap (λ b. b .1) both in
-          let p-is : index (length xs) k (drop k s) ≡ got v m (drop m s) = cc in
-          bind-got location (λ w. choice xs >>= g w) s n e ∙ bind-got (choice xs) (g x) s k (choice-got xs s k d p-is) ∙ ap (λ x. g x (getD xs v d) m (drop m s)) x-is
-      inner x k e failed p = let f : _≡_ {A = Got (Location × ℕ)} failed (got (w, v) m (drop m s)) = rw (e, p, _>>=_) at h in let o : _≡_ {A = ℕ} 0 1 = cc in absurd (omega arith)
-
-      go : (y : Got Location) → location n (drop n s) ≡ y → chosen n (drop n s) ≡ g w (getD xs v d) m (drop m s)
-      go (got x k t) e = inner x k (got-place location location-keeps s n e) (index (length xs) k (drop k s)) refl
-      go failed e = let f : _≡_ {A = Got (Location × ℕ)} failed (got (w, v) m (drop m s)) = rw (e, _>>=_) at h in let o : _≡_ {A = ℕ} 0 1 = cc in absurd (omega arith)
-
--- the answer of the code for them
-abbrev operator : Location × ℕ → ℕ → OperatorRead
-operator y k = OperatorRead.Got (y .0) (y .1) k
-
-module _ (count : ℕ) (s : List ℕ) (n : ℕ) where
-  abbrev pair : Reader (Location × ℕ)
-  pair = with (index count) (λ w v. (w, v))
-
-  pub operator-got : {x : OperatorRead} → x ≡ readAt operator OperatorRead.Failed pair s n → {w : Location} {v m : ℕ} → x ≡ OperatorRead.Got w v m → pair n (drop n s) ≡ got (w, v) m (drop m s)
-  unfolding readAt given
-  operator-got {x} h {w} {v} {m} e = go (pair n (drop n s)) refl
-    where
-      go : (y : Got (Location × ℕ)) → pair n (drop n s) ≡ y → pair n (drop n s) ≡ got (w, v) m (drop m s)
-      go (got (a, b) k t) q =
-          let f : OperatorRead.Got a b k ≡ OperatorRead.Got w v m = sym (ap (given operator OperatorRead.Failed) q) ∙ sym h ∙ e in
-          let a-is : a ≡ w = cc in
-          let b-is : b ≡ v = cc in
-          let k-is : k ≡ m = cc in
-          got-place pair (with-keeps (index count) (λ w v. (w, v)) (index-keeps count)) s n {t = t} (q ∙ cc)
-      go failed q =
-          let f : OperatorRead.Failed ≡ OperatorRead.Got w v m = sym (ap (given operator OperatorRead.Failed) q) ∙ sym h ∙ e in
-          let o : _≡_ {A = ℕ} 0 1 = cc in
-          absurd (omega arith)
-
-  pub operator-failed : {x : OperatorRead} → x ≡ readAt operator OperatorRead.Failed pair s n → x ≡ OperatorRead.Failed → pair n (drop n s) ≡ failed
-  unfolding readAt given
-  operator-failed {x} h e = go (pair n (drop n s)) refl
-    where
-      go : (y : Got (Location × ℕ)) → pair n (drop n s) ≡ y → pair n (drop n s) ≡ failed
-      go (got (a, b) k t) q =
-          let f : OperatorRead.Got a b k ≡ OperatorRead.Failed = sym (ap (given operator OperatorRead.Failed) q) ∙ sym h ∙ e in
-          let o : _≡_ {A = ℕ} 0 1 = cc in
-          absurd (omega arith)
-      go failed q = q
-
--- what stands at a position: the end, a line of a known letter, no form
+-- what stands at a position: the end, or the form of a letter
 pub line-past : (s : List ℕ) (n : ℕ) → length s ≤ n → End ≡ lineAt s n
 unfolding lineAt lexed nextLine
 line-past s n h = rw (drop-of-length-le s h)
@@ -144,25 +75,25 @@ at-letter : (s : List ℕ) (n : ℕ) → n < length s → formAt (fieldsOf forms
 unfolding lineAt nextLine line formAt
 at-letter s n h = rw (add-one, drop-cons s n 0 h)
 
-pub line-form : (s : List ℕ) (n b : ℕ) {x : Lexed} → n < length s → getD s n 0 ≡ b → x ≡ formAt (fieldsOf forms b) s (n + 1) → x ≡ lineAt s n
-line-form s n b h e q = q ∙ ap (λ b. formAt (fieldsOf forms b) s (n + 1)) (sym e) ∙ at-letter s n h
+pub line-form : (s : List ℕ) (n b : ℕ) → n < length s → getD s n 0 ≡ b → formAt (fieldsOf forms b) s (n + 1) ≡ lineAt s n
+line-form s n b h e = ap (λ b. formAt (fieldsOf forms b) s (n + 1)) (sym e) ∙ at-letter s n h
 
 -- the letter k is that of none of these forms: what a `match` on it knows in its last arm
-abbrev Apart : ℕ → Type 0 → List Form → Type 0
+abbrev pub Apart : ℕ → Type 0 → List Form → Type 0
 Apart k A [] = A
 Apart k A (f ∷ fs) = Apart k (A × (k ≡ f .letter → ⊥)) fs
+
+pub apart-from : (k : ℕ) (A B : Type 0) (fs : List Form) → (A → B) → Apart k A fs → Apart k B fs
+apart-from k A B [] g h = g h
+apart-from k A B (f ∷ fs) g h = apart-from k (A × (k ≡ f .letter → ⊥)) (B × (k ≡ f .letter → ⊥)) fs (λ x. (g (x .0), x .1)) h
 
 apart-first : (k : ℕ) (A : Type 0) (fs : List Form) → Apart k A fs → A
 apart-first k A [] h = h
 apart-first k A (f ∷ fs) h = apart-first k (A × (k ≡ f .letter → ⊥)) fs h .0
 
-apart-fails : (k : ℕ) (A : Type 0) (fs : List Form) → Apart k A fs → fieldsOf fs k ≡ fail
+pub apart-fails : (k : ℕ) (A : Type 0) (fs : List Form) → Apart k A fs → fieldsOf fs k ≡ fail
 unfolding fieldsOf
 apart-fails k A [] h = refl
 apart-fails k A (f ∷ fs) h =
     let other = apart-first k (A × (k ≡ f .letter → ⊥)) fs h .1 in
     rw (ne-eqb (f .letter) k (λ e. other (sym e)), fieldsOf) (apart-fails k (A × (k ≡ f .letter → ⊥)) fs h)
-
-pub line-none : (s : List ℕ) (n : ℕ) → n < length s → Apart (getD s n 0) (Unit {0}) forms → Malformed ≡ lineAt s n
-unfolding fail
-line-none s n h a = form-failed (fieldsOf forms (getD s n 0)) s (n + 1) (ap (λ (r : Reader Line). r (n + 1) (drop (n + 1) s)) (apart-fails (getD s n 0) (Unit {0}) forms a)) ∙ at-letter s n h

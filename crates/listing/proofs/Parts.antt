@@ -14,9 +14,9 @@ use Rattle.listing.specs.Ast.{Location, targets, types}
 use Rattle.listing.specs.declared.Line.{Line}
 use Rattle.listing.specs.declared.ExpressionLine.{ExpressionLine}
 use Rattle.listing.specs.declared.Lexed.the-variants.{Good}
-use Rattle.listing.specs.Forms.{with, with₂, contract, Form, forms, fieldsOf, closed, line, found, nextOf, nextLine, lineAt}
+use Rattle.listing.specs.Forms.{with, with₂, contract, forms, fieldsOf, closed, line, found, nextOf, nextLine, lineAt}
 use Rattle.listing.specs.Kinds.{partOf}
-use Rattle.listing.proofs.Places.{with-keeps, with₂-keeps, fields-keep, forms-keep, found-line, found-at, malformed≢found, ended≢found, next-keeps, line-good}
+use Rattle.listing.proofs.Places.{with-keeps, with₂-keeps, fields-each, fields-keep, found-line, found-at, malformed≢found, ended≢found, next-keeps, line-good}
 
 -- what holds of the value that a reader gives from position n on, and of the position after it
 abbrev Gives : {A : Type 0} → (ℕ → A → Type 0) → Reader A → ℕ → Type 0
@@ -63,6 +63,24 @@ name-gives n = part-gives isNameByte (λ x. ltb 0 (x .len)) n
 literal-gives : (n : ℕ) → Gives Ends literal n
 unfolding literal
 literal-gives n = part-gives isHexDigit (λ x. eqb (x .len % 2) 0) n
+
+-- and lies in the listing
+part-inside : (r : Reader Place) → Keeps r → ((n : ℕ) → Gives Ends r n) → ((n : ℕ) → r n [] ≡ failed) → (s : List ℕ) (n : ℕ) {x : Place} {m : ℕ} → r n (drop n s) ≡ got x m (drop m s) → x .at + x .len ≤ length s
+part-inside r keeps gives empty s n {x} {m} h = go (drop n s) refl
+  where
+    go : (u : List ℕ) → drop n s ≡ u → x .at + x .len ≤ length s
+    go [] e = absurd (failed≢got (sym (empty n) ∙ ap (r n) (sym e) ∙ h))
+    go (b ∷ u) e =
+        let here : n ≤ length s = omega (arith, drop-tail s n b u e .1) in
+        omega (arith, keeps s n (drop n s) refl x m (drop m s) h .inside here, gives n s (drop n s) refl x m (drop m s) h)
+
+pub name-inside : (s : List ℕ) (n : ℕ) {x : Place} {m : ℕ} → name n (drop n s) ≡ got x m (drop m s) → x .at + x .len ≤ length s
+unfolding name byte _>>_ _>>=_
+name-inside s n h = part-inside name name-keeps name-gives (λ n. refl) s n h
+
+pub literal-inside : (s : List ℕ) (n : ℕ) {x : Place} {m : ℕ} → literal n (drop n s) ≡ got x m (drop m s) → x .at + x .len ≤ length s
+unfolding literal byte _>>_ _>>=_
+literal-inside s n h = part-inside literal literal-keeps literal-gives (λ n. refl) s n h
 
 -- a line whose part, if it names one, ends before m
 abbrev Named : ℕ → Line → Type 0
@@ -116,27 +134,22 @@ unfolding with₂ partOf
 string-gives n =
     expression-gives (λ m l. Named m (Line.Expression l)) (with₂ literal bit ExpressionLine.StringLiteral) n (with₂-keeps literal bit ExpressionLine.StringLiteral literal-keeps bit-keeps) (bind-gives (λ m a. n ≤ m) (λ m l. Named m (Line.Expression l)) location (λ w. literal >>= λ x. bit >>= λ b. yield (ExpressionLine.StringLiteral w x b)) n location-keeps (keeps-on location location-keeps n) (λ w k i. bind-gives Ends (λ m l. Named m (Line.Expression l)) literal (λ x. bit >>= λ b. yield (ExpressionLine.StringLiteral w x b)) k literal-keeps (literal-gives k) (λ x j q. bind-gives (λ m a. j ≤ m) (λ m l. Named m (Line.Expression l)) bit (λ b. yield (ExpressionLine.StringLiteral w x b)) j bit-keeps (keeps-on bit bit-keeps j) (λ b h g. yield-gives (λ m l. Named m (Line.Expression l)) h (ExpressionLine.StringLiteral w x b) (named (Line.Expression (ExpressionLine.StringLiteral w x b)) x h refl (omega arith)))))) (λ m l i. i)
 
-abbrev GivesAll : List Form → Type 0
-GivesAll [] = Unit {0}
-GivesAll (f ∷ fs) = ((n : ℕ) → Gives Named (f .fields) n) × GivesAll fs
+fail-gives : (n : ℕ) → Gives Named fail n
+unfolding fail
+fail-gives n s u e a m t q = absurd (failed≢got q)
 
-forms-give : GivesAll forms
+fields-give : (b n : ℕ) → Gives Named (fieldsOf forms b) n
 unfolding partOf
-forms-give =
-    (contract-gives, (map-unnamed _ _ word-keeps (λ a. refl), (param-gives, (map-unnamed _ _ word-keeps (λ a. refl), (map-unnamed _ _ (with-keeps _ _ bit-keeps) (λ a. refl), (map-unnamed _ _ (with₂-keeps _ _ _ (choice-keeps _) signed-keeps) (λ a. refl), (map-unnamed _ _ (map-keeps _ _ location-keeps) (λ a. refl), (map-unnamed _ _ (map-keeps _ _ location-keeps) (λ a. refl), (variable-gives, (with-plain _ _ signed-keeps (λ w a. refl), (with-plain _ _ bit-keeps (λ w a. refl), (string-gives, (with-plain _ _ (choice-keeps _) (λ w a. refl), (with-plain _ _ (choice-keeps _) (λ w a. refl), (with-plain _ _ (choice-keeps _) (λ w a. refl), (with-plain _ _ (choice-keeps _) (λ w a. refl), (with-plain _ _ (choice-keeps _) (λ w a. refl), (bare-plain _ (λ w. refl), (bare-plain _ (λ w. refl), (map-unnamed _ _ (map-keeps _ _ location-keeps) (λ a. refl), (map-unnamed _ _ (with₂-keeps _ _ _ word-keeps word-keeps) (λ a. refl), tt)))))))))))))))))))))
-
-fields-give : (fs : List Form) → GivesAll fs → (b n : ℕ) → Gives Named (fieldsOf fs b) n
-unfolding fieldsOf fail
-fields-give [] h b n s u e a m t q = absurd (failed≢got q)
-fields-give (f ∷ fs) h b n s u e a m t q = go (eqb (f .letter) b) refl (fields-give fs (h .1) b n s u e a m t)
-  where
-    go : (c : Bool) → eqb (f .letter) b ≡ c → (fieldsOf fs b n u ≡ got a m t → Named m a) → Named m a
-    go true p ih = h .0 n s u e a m t (rw (p, fieldsOf) at q)
-    go false p ih = ih (rw (p, fieldsOf) at q)
+fields-give b =
+    fields-each
+    (λ r. (n : ℕ) → Gives Named r n)
+    b
+    forms
+    (λ e. contract-gives, (λ e. map-unnamed _ _ word-keeps (λ a. refl), (λ e. param-gives, (λ e. map-unnamed _ _ word-keeps (λ a. refl), (λ e. map-unnamed _ _ (with-keeps _ _ bit-keeps) (λ a. refl), (λ e. map-unnamed _ _ (with₂-keeps _ _ _ (choice-keeps _) signed-keeps) (λ a. refl), (λ e. map-unnamed _ _ (map-keeps _ _ location-keeps) (λ a. refl), (λ e. map-unnamed _ _ (map-keeps _ _ location-keeps) (λ a. refl), (λ e. variable-gives, (λ e. with-plain _ _ signed-keeps (λ w a. refl), (λ e. with-plain _ _ bit-keeps (λ w a. refl), (λ e. string-gives, (λ e. with-plain _ _ (choice-keeps _) (λ w a. refl), (λ e. with-plain _ _ (choice-keeps _) (λ w a. refl), (λ e. with-plain _ _ (choice-keeps _) (λ w a. refl), (λ e. with-plain _ _ (choice-keeps _) (λ w a. refl), (λ e. with-plain _ _ (choice-keeps _) (λ w a. refl), (λ e. bare-plain _ (λ w. refl), (λ e. bare-plain _ (λ w. refl), (λ e. map-unnamed _ _ (map-keeps _ _ location-keeps) (λ a. refl), (λ e. map-unnamed _ _ (with₂-keeps _ _ _ word-keeps word-keeps) (λ a. refl), fail-gives)))))))))))))))))))))
 
 line-gives : (b n : ℕ) → Gives Named (closed (fieldsOf forms b)) n
 unfolding closed _>>_
-line-gives b n = bind-gives Named Named (fieldsOf forms b) (λ l. byte newline >> yield l) n (fields-keep forms forms-keep b) (fields-give forms forms-give b n) (λ l k i. bind-gives (λ m a. k ≤ m) Named (byte newline) (λ _. yield l) k (byte-keeps newline) (keeps-on (byte newline) (byte-keeps newline) k) (λ a j h. yield-gives Named j l (λ x e. omega (arith, i x e))))
+line-gives b n = bind-gives Named Named (fieldsOf forms b) (λ l. byte newline >> yield l) n (fields-keep b) (fields-give b n) (λ l k i. bind-gives (λ m a. k ≤ m) Named (byte newline) (λ _. yield l) k (byte-keeps newline) (keeps-on (byte newline) (byte-keeps newline) k) (λ a j h. yield-gives Named j l (λ x e. omega (arith, i x e))))
 
 -- the part that a line of the listing names lies in the listing
 pub line-part : (s : List ℕ) (n : ℕ) (l : Line) (m : ℕ) → lineAt s n ≡ Good l m → (x : Place) → partOf l ≡ some x → x .at + x .len ≤ length s

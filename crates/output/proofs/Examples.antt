@@ -3,7 +3,7 @@ use mathlib.Core.Path.{_≡_, refl}
 use mathlib.Core.Bool.{true, false}
 use mathlib.Core.List.{[], _∷_}
 use Rattle.output.specs.Decimal.{digits, decimal}
-use Rattle.output.specs.Put.{puts}
+use Rattle.output.specs.Put.{puts, lastDigits}
 
 zero-is : decimal 0 ≡ 48 ∷ []
 unfolding decimal digits
@@ -20,6 +20,14 @@ ten-is = refl
 largest-is : decimal 4294967295 ≡ 52 ∷ 50 ∷ 57 ∷ 52 ∷ 57 ∷ 54 ∷ 55 ∷ 50 ∷ 57 ∷ 53 ∷ []
 unfolding decimal digits
 largest-is = refl
+
+last-three-are : lastDigits 3 12049 ≡ 48 ∷ 52 ∷ 57 ∷ []
+unfolding lastDigits
+last-three-are = refl
+
+short-three-are : lastDigits 3 7 ≡ 48 ∷ 48 ∷ 55 ∷ []
+unfolding lastDigits
+short-three-are = refl
 
 written-is : puts true (1 ∷ 2 ∷ 3 ∷ 4 ∷ []) 1 (65 ∷ 66 ∷ []) ≡ 1 ∷ 65 ∷ 66 ∷ 4 ∷ []
 unfolding puts

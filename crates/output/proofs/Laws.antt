@@ -1,16 +1,16 @@
 -- Laws of numbers in decimal and of text that is put.
 use mathlib.Core.Path.{_≡_, refl, sym, ap, _∙_}
 use mathlib.Core.Bool.{Bool, true, false}
-use mathlib.Core.List.{List, [], _∷_, _++_}
-use Prim.Native.Nat.{ℕ, zero, suc, _+_, _/_, _%_, _^_, _≤_, _<_}
-use native.Mathlib.Nat.{add-zero, zero-add, add-suc, suc-add, pow-suc}
+use mathlib.Core.List.{List, [], _∷_, _++_, append-nil, append-assoc}
+use Prim.Native.Nat.{ℕ, zero, suc, _+_, _*_, _/_, _%_, _^_, _≤_, _<_}
+use native.Mathlib.Nat.{add-zero, zero-add, add-suc, suc-add, pow-suc, pow-succ', one-le-pow, mod-eq-of-lt, div-one, div-div-eq-div-mul}
 use native.Mathlib.Omega.{arith}
 use borrow.Author.Tests.{lt-ltb, le-ltb, ltb-true, ltb-false}
 use lib.Dec.{ltb}
 use lib.ListN.{length, drop, set, length-append}
 use lib.Seq.{sets, length-sets, sets-eq}
 use Rattle.output.specs.Decimal.{digits, decimal}
-use Rattle.output.specs.Put.{most, puts, Room, Wrote}
+use Rattle.output.specs.Put.{most, puts, Room, Wrote, lastDigits}
 
 -- ---- a number in decimal
 
@@ -58,17 +58,60 @@ decimal-more n h =
     step n n [] h ∙ digits-before n (n / 10) [] ((48 + n % 10) ∷ [])
     ∙ ap (λ (l : List ℕ). l ++ ((48 + n % 10) ∷ [])) (digits-enough n (suc (n / 10)) (n / 10) [] (omega arith) (omega arith))
 
--- one digit more
-pub decimal-length : (n : ℕ) → 10 ≤ n → length (decimal n) ≡ length (decimal (n / 10)) + 1
-decimal-length n h = ap length (decimal-more n h) ∙ length-append (decimal (n / 10)) ((48 + n % 10) ∷ [])
+-- ---- the last digits of a number
+
+pub one-digit : (n : ℕ) → lastDigits 1 n ≡ (48 + n % 10) ∷ []
+unfolding lastDigits
+one-digit n = refl
+
+pub last-length : (k n : ℕ) → length (lastDigits k n) ≡ k
+unfolding lastDigits
+last-length zero n = refl
+last-length (suc k) n = length-append (lastDigits k (n / 10)) ((48 + n % 10) ∷ []) ∙ omega (arith, last-length k (n / 10))
+
+-- one digit more after the same start
+before-more : (k n : ℕ) (p : List ℕ) → 10 ≤ n → decimal (n / 10) ≡ p ++ lastDigits k (n / 10) → decimal n ≡ p ++ lastDigits (suc k) n
+unfolding lastDigits
+before-more k n p h e = decimal-more n h ∙ rw (e, append-assoc)
+
+pub decimal-first : (n : ℕ) → n < 10 → decimal n ≡ lastDigits 1 n
+decimal-first n h = decimal-one n h ∙ rw (one-digit n, mod-eq-of-lt h)
+
+-- a number of k + 2 digits
+pub decimal-all : (k n : ℕ) → 10 ^ suc k ≤ n → n < 10 ^ suc (suc k) → decimal n ≡ lastDigits (suc (suc k)) n
+decimal-all zero n h l = before-more 1 n [] h (decimal-first (n / 10) (omega arith))
+decimal-all (suc k) n h l =
+    let p : 10 ^ suc (suc k) ≡ 10 ^ suc k * 10 = pow-suc 10 (suc k) in
+    let q : 10 ^ suc (suc (suc k)) ≡ 10 ^ suc (suc k) * 10 = pow-suc 10 (suc (suc k)) in
+    before-more (suc (suc k)) n [] (omega (arith, one-le-pow (suc k) 10 (omega arith))) (decimal-all k (n / 10) (omega arith) (omega arith))
+
+-- a number of more than k digits
+pub decimal-before : (k n : ℕ) → 10 ^ k ≤ n → decimal n ≡ decimal (n / 10 ^ k) ++ lastDigits k n
+unfolding lastDigits
+decimal-before zero n h = rw (div-one, append-nil)
+decimal-before (suc k) n h =
+    let p : 10 ^ suc k ≡ 10 * 10 ^ k = pow-succ' 10 k in
+    rw (p, ← div-div-eq-div-mul n 10 (10 ^ k)) (before-more k n (decimal (n / 10 / 10 ^ k)) (omega (arith, one-le-pow k 10 (omega arith))) (decimal-before k (n / 10) (omega arith)))
+
+-- ---- how many digits a number has
+
+pub decimal-length : (k n : ℕ) → 10 ^ k ≤ n → length (decimal n) ≡ length (decimal (n / 10 ^ k)) + k
+decimal-length k n h =
+    ap length (decimal-before k n h) ∙ length-append (decimal (n / 10 ^ k)) (lastDigits k n) ∙ ap (λ (m : ℕ). length (decimal (n / 10 ^ k)) + m) (last-length k n)
+
+pub length-first : (n : ℕ) → n < 10 → length (decimal n) ≡ 1
+length-first n h = ap length (decimal-first n h) ∙ last-length 1 n
+
+pub length-all : (k n : ℕ) → 10 ^ suc k ≤ n → n < 10 ^ suc (suc k) → length (decimal n) ≡ suc (suc k)
+length-all k n h l = ap length (decimal-all k n h l) ∙ last-length (suc (suc k)) n
 
 decimal-within : (k n : ℕ) → n < 10 ^ suc k → length (decimal n) ≤ suc k
-decimal-within zero n h = omega (arith, ap length (decimal-one n (omega (arith, pow-suc 10 0))))
+decimal-within zero n h = omega (arith, length-first n (omega (arith, pow-suc 10 0)))
 decimal-within (suc k) n h = go (ltb n 10) refl (decimal-within k (n / 10) (omega (arith, pow-suc 10 (suc k))))
   where
     go : (t : Bool) → ltb n 10 ≡ t → length (decimal (n / 10)) ≤ suc k → length (decimal n) ≤ suc (suc k)
-    go true t ih = omega (arith, ap length (decimal-one n (ltb-true n 10 t)))
-    go false t ih = omega (arith, decimal-length n (ltb-false n 10 t))
+    go true t ih = omega (arith, length-first n (ltb-true n 10 t))
+    go false t ih = omega (arith, decimal-length 1 n (ltb-false n 10 t))
 
 -- a number of 32 bits has at most ten digits
 pub decimal-short : (n : ℕ) → n < 4294967296 → length (decimal n) ≤ 10
@@ -79,8 +122,8 @@ pub decimal-some : (n : ℕ) → 1 ≤ length (decimal n)
 decimal-some n = go (ltb n 10) refl
   where
     go : (t : Bool) → ltb n 10 ≡ t → 1 ≤ length (decimal n)
-    go true t = omega (arith, ap length (decimal-one n (ltb-true n 10 t)))
-    go false t = omega (arith, decimal-length n (ltb-false n 10 t))
+    go true t = omega (arith, length-first n (ltb-true n 10 t))
+    go false t = omega (arith, decimal-length 1 n (ltb-false n 10 t))
 
 -- ---- a text that is put
 
@@ -119,6 +162,10 @@ puts-whole out text h = sets-eq text out 0 (omega arith) ∙ ap (λ (n : ℕ). t
 -- a text that is only measured needs no room
 pub room-off : {out text : List ℕ} {at bound : ℕ} → at + bound ≤ most → Room false out at text bound
 room-off h = record { fits = λ t. let e : _≡_ {A = ℕ} 0 1 = cc in absurd (omega arith); counts = h }
+
+-- and nothing is stored
+pub wrote-off : {w : Bool} {out text : List ℕ} {at bound next : ℕ} → w ≡ false → next ≡ at + length text → length text ≤ bound → Wrote w out at text bound out next
+wrote-off {out = out} {text} {at} e p h = record { past = p; holds = rw e (sym (puts-off out at text)); short = h }
 
 pub wrote-nothing : (w : Bool) (out : List ℕ) (at : ℕ) → Wrote w out at [] 0 out at
 wrote-nothing w out at = record { past = sym (add-zero at); holds = sym (puts-nothing w out at); short = omega arith }

@@ -1,7 +1,7 @@
 -- Text put into an output from a position on, or only measured.
-use Prim.Native.Nat.{ℕ, _+_, _≤_}
+use Prim.Native.Nat.{ℕ, zero, suc, _+_, _/_, _%_, _≤_}
 use mathlib.Core.Bool.{Bool, true, false}
-use mathlib.Core.List.{List}
+use mathlib.Core.List.{List, [], _∷_, _++_}
 use mathlib.Core.Path.{_≡_}
 use lib.ListN.{length}
 use lib.Seq.{sets}
@@ -24,3 +24,8 @@ pub record Wrote (w : Bool) (out : List ℕ) (at : ℕ) (text : List ℕ) (bound
   pub past : next ≡ at + length text
   pub holds : after ≡ puts w out at text
   pub short : length text ≤ bound
+
+-- the last k digits of a number, with zeros before a shorter one
+unfoldable pub lastDigits : ℕ → ℕ → List ℕ
+lastDigits zero n = []
+lastDigits (suc k) n = lastDigits k (n / 10) ++ ((48 + n % 10) ∷ [])

@@ -5,25 +5,23 @@ use native.Mathlib.Omega.{arith}
 use mathlib.Core.Bool.{Bool, true, false}
 use mathlib.Core.List.{List}
 use mathlib.Core.Logic.{_⊎_, inl, inr}
-use mathlib.Core.Option.{some}
 use mathlib.Core.Path.{_≡_, refl, sym, ap, _∙_, subst}
 use borrow.Author.Tests.{ltb-true, ltb-false}
 use lib.Dec.{ltb}
 use lib.ListN.{length, drop}
-use Rattle.text.specs.declared.Place.{Place}
+use Rattle.listing.specs.declared.Lexed.{Lexed}
 use Rattle.listing.specs.declared.Lexed.the-variants.{Good, Malformed as NoForm, End as AtEnd}
 use Rattle.listing.specs.Forms.{lineAt}
-use Rattle.listing.specs.Kinds.{partOf}
-use Rattle.listing.proofs.Places.{line-good, line-malformed, line-end}
-use Rattle.listing.proofs.Parts.{line-part}
-use Rattle.rows.specs.Rows.{lineIn as rowLine, withRow, withRows, PartFits}
-use Rattle.rows.specs.Work.{workWords, cleared}
-use Rattle.rows.proofs.Laws.{rows-length, rows-line, clear-rows}
+use Rattle.listing.proofs.Places.{line-good, line-malformed, line-end, line-forth, line-here}
+use Rattle.listing.proofs.Lines.{line-past}
+use Rattle.rows.specs.Rows.{lineIn as rowLine, withRow, withRows}
+use Rattle.rows.specs.Stores.{after, withLexed, Stores}
+use Rattle.rows.proofs.Laws.{rows-length, rows-line}
 use Rattle.reader.specs.declared.Lines.{Lines}
 use Rattle.reader.specs.declared.Asked.{Asked}
 use Rattle.reader.specs.declared.Asked.the-variants.{Found, Malformed, End}
 use Rattle.reader.specs.Ast.{Line, Contract, Next, found, malformed, ended, nextLine}
-use Rattle.reader.specs.Ceilings.{maxBytes, maxLines, withinCeilings}
+use Rattle.reader.specs.Ceilings.{maxLines, withinCeilings}
 use Rattle.reader.specs.Source.{Source, read}
 use Rattle.reader.specs.Reading.{readListing}
 use Rattle.reader.specs.Spells.{Reached, start, step, nth, lineIn, linesOf}
@@ -46,9 +44,9 @@ module _ (s w t : List ℕ) (count at : ℕ) (h : Storing s w t count at) where
   next-line : (l : Line) (m : ℕ) → lineAt s at ≡ Good l m → nth count 0 s ≡ found l m (drop m s)
   next-line l m e = h .here ∙ line-good s at l m e
 
-  pub storing-more : (l : Line) (m : ℕ) → lineAt s at ≡ Good l m → (r : List ℕ) → r ≡ withRow t count l → Storing s w r (count + 1) m
+  line-more : (l : Line) (m : ℕ) → lineAt s at ≡ Good l m → (r : List ℕ) → r ≡ withRow t count l → Storing s w r (count + 1) m
   unfolding withRows standing lineIn
-  storing-more l m e r q =
+  line-more l m e r q =
       let n = next-line l m e in
       let line : linesOf s count ≡ l = ap lineIn n in
       record {
@@ -68,13 +66,28 @@ module _ (s w t : List ℕ) (count at : ℕ) (h : Storing s w t count at) where
       latest k i (inl a) = h .found k a
       latest k i (inr a) = subst (λ k. standing (nth k 0 s) ≡ Found (linesOf s k)) (sym a) (ap standing (next-line l m e) ∙ ap Found (sym (ap lineIn (next-line l m e))))
 
-  pub stored-malformed : lineAt s at ≡ NoForm → count ≤ suc maxLines → Stored s w t (record { count = count; ended = false })
-  unfolding standing
-  stored-malformed e f = record { rows = h .rows; few = f; found = h .found; after = λ i. ap standing (h .here ∙ line-malformed s at e) }
+  -- the next line was stored, if there is one
+  pub storing-more : {r : List ℕ} {n : ℕ} → Stores (lineAt s at) count t r n → (n ≡ 0 → ⊥) → Storing s w r (count + 1) n
+  unfolding after withLexed
+  storing-more {r} {n} x more = go (lineAt s at) refl
+    where
+      go : (y : Lexed) → lineAt s at ≡ y → Storing s w r (count + 1) n
+      go (Good l m) e = subst (λ m. Storing s w r (count + 1) m) (sym (x .next ∙ ap after e)) (line-more l m e r (x .table ∙ ap (withLexed t count) e))
+      go NoForm e = absurd (more (x .next ∙ ap after e))
+      go AtEnd e = absurd (more (x .next ∙ ap after e))
 
-  pub stored-end : lineAt s at ≡ AtEnd → count ≤ suc maxLines → Stored s w t (record { count = count; ended = true })
+  pub stored-malformed : at < length s → {r : List ℕ} {n : ℕ} → Stores (lineAt s at) count t r n → n ≡ 0 → count ≤ suc maxLines → Stored s w r (record { count = count; ended = false })
+  unfolding after withLexed standing
+  stored-malformed i {r} {n} x q f = go (lineAt s at) refl
+    where
+      go : (y : Lexed) → lineAt s at ≡ y → Stored s w r (record { count = count; ended = false })
+      go (Good l m) e = absurd (omega (arith, line-forth s at l m e, x .next ∙ ap after e))
+      go NoForm e = record { rows = x .table ∙ ap (withLexed t count) e ∙ h .rows; few = f; found = h .found; after = λ i. ap standing (h .here ∙ line-malformed s at e) }
+      go AtEnd e = absurd (line-here s at i e)
+
+  pub stored-end : length s ≤ at → count ≤ suc maxLines → Stored s w t (record { count = count; ended = true })
   unfolding standing
-  stored-end e f = record { rows = h .rows; few = f; found = h .found; after = λ i. ap standing (h .here ∙ line-end s at e) }
+  stored-end e f = record { rows = h .rows; few = f; found = h .found; after = λ i. ap standing (h .here ∙ line-end s at (sym (line-past s at e))) }
 
   pub stored-full : suc maxLines ≤ count → count ≤ suc maxLines → Stored s w t (record { count = count; ended = false })
   stored-full g f = record { rows = h .rows; few = f; found = h .found; after = λ i. absurd (omega arith) }
@@ -173,7 +186,3 @@ module _ (s w t : List ℕ) (n : Lines) (h : Stored s w t n) (room : n .count * 
       ends true i b j = let z : _≡_ {A = Asked} End (Found (linesOf s (q .index))) = sym (ap standing last) ∙ h .found (q .index) (ltb-true (q .index) (n .count) i) in let o : _≡_ {A = ℕ} 0 1 = cc in absurd (omega arith)
       ends false i true j = absurd (early (n .count) (ltb-true (n .count) (q .index) j) refl)
       ends false i false j = omega (arith, ltb-false (q .index) (n .count) i, ltb-false (n .count) (q .index) j)
-
--- the places of a line within the ceiling of bytes fit in a word
-pub part-fits : (s : List ℕ) → length s ≤ maxBytes → (n : ℕ) (l : Line) (m : ℕ) → lineAt s n ≡ Good l m → PartFits l
-part-fits s h n l m e x p = let i = line-part s n l m e x p in (omega arith, omega arith)

@@ -5,7 +5,7 @@ use native.Mathlib.Nat.{sub-zero, sub-eq-zero-of-le}
 use native.Mathlib.Numerals.{add-one}
 use mathlib.Core.Bool.{Bool, true, false, _&&_}
 use mathlib.Core.List.{List}
-use mathlib.Core.Path.{_≡_, refl, subst}
+use mathlib.Core.Path.{_≡_, refl, sym, ap, subst, _∙_}
 use borrow.Author.Tests.{eq-eqb, ne-eqb, ltb-true, eqb-true}
 use lib.Dec.{ltb, eqb}
 use Rattle.reader.specs.declared.Lines.{Lines}
@@ -150,15 +150,29 @@ allLevels = record { blocks = maxBlockDepth; expressions = maxDepth }
 unfoldable pub contractWalk : ℕ → List ℕ → Lines → Walk
 contractWalk f t n i = onward (node f t n allLevels contractKind i) (λ j. onward (node f t n allLevels blockKind j) (λ k. finished k (asked t n k)))
 
--- a contract: refused in its declarations, in its block, or read to its end
-pub contract-declared : (f : ℕ) (t : List ℕ) (n : Lines) (i : ℕ) {d : Step} {x : CompileError} → d ≡ node f t n allLevels contractKind i → d ≡ Refused x → d ≡ contractWalk f t n i
-unfolding contractWalk onward
-contract-declared f t n i e h = rw (← e, h, onward)
+-- the T line and the block as the parts of one line
+abbrev pub whole : Form
+whole = record { kind = contractKind; count = 2; first = contractKind; rest = blockKind; within = true }
 
-pub contract-body : (f : ℕ) (t : List ℕ) (n : Lines) (i : ℕ) {d b : Step} {j : ℕ} {x : CompileError} → d ≡ node f t n allLevels contractKind i → d ≡ Onward j → b ≡ node f t n allLevels blockKind j → b ≡ Refused x → b ≡ contractWalk f t n i
-unfolding contractWalk onward
-contract-body f t n i e h g k = rw (← e, h, ← g, k, onward)
+-- two walks in a row, and a third
+two-walks : (a : Step) (b c : Walk) → onward (onward a (λ j. onward (b j) Onward)) c ≡ onward a (λ j. onward (b j) c)
+unfolding onward
+two-walks (Refused x) b c = refl
+two-walks (Onward j) b c = last (b j)
+  where
+    last : (a : Step) → onward (onward a Onward) c ≡ onward a c
+    last (Onward k) = refl
+    last (Refused x) = refl
 
-pub contract-end : (f : ℕ) (t : List ℕ) (n : Lines) (i : ℕ) {d b r : Step} {j k : ℕ} → d ≡ node f t n allLevels contractKind i → d ≡ Onward j → b ≡ node f t n allLevels blockKind j → b ≡ Onward k → r ≡ finished k (asked t n k) → r ≡ contractWalk f t n i
-unfolding contractWalk onward
-contract-end f t n i e h g k z = rw (← e, h, ← g, k, z, onward)
+whole-walk : (f : ℕ) (t : List ℕ) (n : Lines) (i : ℕ) → onward (partsOf (node f t n allLevels) whole i) (λ k. finished k (asked t n k)) ≡ contractWalk f t n i
+unfolding contractWalk partsOf each
+whole-walk f t n i = two-walks (node f t n allLevels contractKind i) (node f t n allLevels blockKind) (λ k. finished k (asked t n k))
+
+-- a contract: refused in its parts, or read to its end
+pub contract-refused : (f : ℕ) (t : List ℕ) (n : Lines) (i : ℕ) {b : Step} {x : CompileError} → b ≡ partsOf (node f t n allLevels) whole i → b ≡ Refused x → b ≡ contractWalk f t n i
+unfolding onward
+contract-refused f t n i {b} {x} e h = h ∙ sym (ap (λ a. onward a (λ k. finished k (asked t n k))) (sym e ∙ h)) ∙ whole-walk f t n i
+
+pub contract-end : (f : ℕ) (t : List ℕ) (n : Lines) (i : ℕ) {b r : Step} {k : ℕ} → b ≡ partsOf (node f t n allLevels) whole i → b ≡ Onward k → r ≡ finished k (asked t n k) → r ≡ contractWalk f t n i
+unfolding onward
+contract-end f t n i {b} {r} {k} e h z = z ∙ sym (ap (λ a. onward a (λ k. finished k (asked t n k))) (sym e ∙ h)) ∙ whole-walk f t n i

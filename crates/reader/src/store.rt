@@ -5,9 +5,7 @@ ghost use Rattle.rows.specs.Work.{workWords};
 ghost use Rattle.reader.specs.Ceilings.{maxBytes};
 ghost use Rattle.reader.specs.Held.{Stored};
 use crate::Lines;
-use listing::Lexed;
-use listing::read_line;
-use rows::put_row;
+use rows::lines::store_line;
 
 // One row more than a listing may have lines, so that the line after the last can still be asked for.
 const MAX_ROWS: usize = 1025;
@@ -19,22 +17,17 @@ pub fn store_lines(listing: &[u8], work: &mut [u32]) -> Lines
     let mut at: usize = 0;
     let mut count: usize = 0;
     while count < MAX_ROWS {
-        let next = read_line(listing, at);
-        match next {
-            Lexed::Good(line, n) => {
-                put_row(work, count, line);
-                at = n;
-            }
-            Lexed::Malformed => {
-                return Lines {
-                    count,
-                    ended: false,
-                };
-            }
-            Lexed::End => {
-                return Lines { count, ended: true };
-            }
+        if listing.len() <= at {
+            return Lines { count, ended: true };
         }
+        let next = store_line(listing, at, work, count);
+        if next == 0 {
+            return Lines {
+                count,
+                ended: false,
+            };
+        }
+        at = next;
         count += 1;
     }
     Lines {

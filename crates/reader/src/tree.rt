@@ -338,7 +338,7 @@ fn read_parts(table: &[u32], lines: Lines, i: usize, form: Form, left: Left) -> 
     Step::Next(next)
 }
 
-// The whole listing: the T line and its declarations, the block, and nothing more.
+// The whole listing: the T line and its declarations, the block, and nothing more. The first two are read as parts of one line.
 pub fn read_contract(table: &[u32], lines: Lines) -> Step
     requires { ⌜ lines .count * 9 ≤ length (now table) ⌝ }
     ensures { λ r. ⌜ ((s : List ℕ) → Holds s (now (table .entry)) lines → r ≡ stepped (contract s (source s 0 0))) ⌝ }
@@ -347,13 +347,16 @@ pub fn read_contract(table: &[u32], lines: Lines) -> Step
         blocks: MAX_BLOCK_DEPTH,
         expressions: MAX_DEPTH,
     };
-    let declared = read_node(table, lines, 0, CONTRACT, left);
-    let Step::Next(i) = declared else {
-        return declared;
+    let whole = Form {
+        kind: CONTRACT,
+        count: 2,
+        first: CONTRACT,
+        rest: BLOCK,
+        within: true,
     };
-    let body = read_node(table, lines, i, BLOCK, left);
-    let Step::Next(j) = body else {
+    let body = read_parts(table, lines, 0, whole, left);
+    let Step::Next(i) = body else {
         return body;
     };
-    read_end(table, lines, j)
+    read_end(table, lines, i)
 }

@@ -1,9 +1,7 @@
 -- Rows: a line kept in nine words of work memory.
 use Prim.Native.Nat.{ℕ, zero, suc, _+_, _*_, _/_, _%_, _^_, _<_}
-use mathlib.Core.Path.{_≡_}
 use mathlib.Core.Bool.{Bool, true, false}
 use mathlib.Core.List.{List, [], _∷_}
-use mathlib.Core.Option.{Option, some, none}
 use lib.Dec.{eqb}
 use lib.ListN.{getD}
 use lib.Seq.{sets}
@@ -24,7 +22,6 @@ use Rattle.listing.specs.declared.StatementLine.{StatementLine}
 use Rattle.listing.specs.declared.ExpressionLine.{ExpressionLine}
 use Rattle.listing.specs.declared.FactorLine.{FactorLine}
 use Rattle.listing.specs.declared.Line.{Line}
-use Rattle.listing.specs.Kinds.{partOf}
 use Rattle.rows.specs.declared.Words.{Words}
 
 -- a row: the letter of the line's form, its w, and its other fields
@@ -145,9 +142,6 @@ unfoldable pub withRows : List ℕ → ℕ → (ℕ → Line) → List ℕ
 withRows t zero L = t
 withRows t (suc n) L = withRow (withRows t n L) n (L n)
 
--- a part whose two words fit, and a line whose part does
+-- a part whose two words fit
 abbrev pub PlaceFits : Place → Type 0
 PlaceFits x = (x .at < 2 ^ 32) × (x .len < 2 ^ 32)
-
-abbrev pub PartFits : Line → Type 0
-PartFits l = (x : Place) → partOf l ≡ some x → PlaceFits x

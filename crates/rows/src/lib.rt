@@ -4,7 +4,7 @@ ghost use Prim.Native.Nat.{_+_, _*_, _≤_};
 ghost use lib.ListN.{length};
 ghost use lib.Seq.{sets};
 ghost use Rattle.ast.specs.Tree.{unplaced};
-ghost use Rattle.rows.specs.Rows.{rowWith, bitNumber, signedRow, partRow, PlaceFits, statementRow, expressionRow, factorRow, rowOf, placeIn, signedIn, lineOf, wordsOf, rowIn, lineIn, withRow, partIn, PartFits};
+ghost use Rattle.rows.specs.Rows.{rowWith, bitNumber, signedRow, partRow, PlaceFits, placeIn, signedIn, lineOf, wordsOf, rowIn, lineIn, partIn};
 ghost use Rattle.rows.specs.Work.{workWords, cleared};
 use ast::Location;
 use ast::Signed;
@@ -14,6 +14,8 @@ use listing::FactorLine;
 use listing::Line;
 use listing::StatementLine;
 use text::Place;
+
+pub mod lines; // lines.rt: the forms of a line, stored as rows
 
 // The letter of a line's form, its location, and up to four more fields.
 pub struct Words {
@@ -128,66 +130,6 @@ pub fn part_in(r: Words) -> Place
     }
 }
 
-fn statement_row(l: StatementLine) -> Words
-    ensures { λ r. ⌜ r ≡ statementRow l ⌝ }
-{
-    match l {
-        StatementLine::IfStatement(w, e) => short_row(73, w, bit(e)),
-        StatementLine::LocktimeStatement(w, o, v) => signed_row(
-            76,
-            w,
-            numbers::locktime_number(o),
-            v,
-        ),
-        StatementLine::VerifyStatement(w) => short_row(86, w, 0),
-        StatementLine::ExpressionStatement(w) => short_row(69, w, 0),
-    }
-}
-
-fn expression_row(l: ExpressionLine) -> Words
-    requires { ⌜ PartFits (Line.Expression l) ⌝ }
-    ensures { λ r. ⌜ r ≡ expressionRow l ⌝ }
-{
-    match l {
-        ExpressionLine::Variable(w, x) => part_row(118, w, x, 0),
-        ExpressionLine::NumberLiteral(w, v) => signed_row(110, w, 0, v),
-        ExpressionLine::BooleanLiteral(w, b) => short_row(98, w, bit(b)),
-        ExpressionLine::StringLiteral(w, x, m) => part_row(115, w, x, bit(m)),
-        ExpressionLine::LogicalExpression(w, o) => short_row(108, w, numbers::logical_number(o)),
-        ExpressionLine::CompareExpression(w, o) => short_row(99, w, numbers::compare_number(o)),
-        ExpressionLine::BinaryMathExpression(w, o) => short_row(109, w, numbers::math_number(o)),
-        ExpressionLine::UnaryMathExpression(w, o) => short_row(117, w, numbers::unary_number(o)),
-        ExpressionLine::UnaryCryptoExpression(w, o) => short_row(104, w, numbers::crypto_number(o)),
-        ExpressionLine::ByteExpression(w) => short_row(122, w, 0),
-        ExpressionLine::CheckSigExpression(w) => short_row(103, w, 0),
-    }
-}
-
-fn factor_row(l: FactorLine) -> Words
-    ensures { λ r. ⌜ r ≡ factorRow l ⌝ }
-{
-    match l {
-        FactorLine::SingleSigFactor(w) => short_row(83, w, 0),
-        FactorLine::MultiSigFactor(w, m, n) => row_with(77, w, m, n, 0, 0),
-    }
-}
-
-// The row that keeps a line.
-pub fn row_of(l: Line) -> Words
-    requires { ⌜ PartFits l ⌝ }
-    ensures { λ r. ⌜ r ≡ rowOf l ⌝ }
-{
-    match l {
-        Line::Contract(t, n) => plain_row(84, numbers::target_number(t), n),
-        Line::Declaration(n) => plain_row(68, n, 0),
-        Line::StackParam(w, t, x) => part_row(80, w, x, numbers::type_number(t)),
-        Line::Block(n) => plain_row(66, n, 0),
-        Line::Statement(s) => statement_row(s),
-        Line::Expression(e) => expression_row(e),
-        Line::Factor(f) => factor_row(f),
-    }
-}
-
 // The line that a row keeps; a row of no form keeps an empty block's line.
 pub fn line_of(r: Words) -> Line
     ensures { λ x. ⌜ x ≡ lineOf r ⌝ }
@@ -259,14 +201,6 @@ fn put_words(work: &mut [u32], at: usize, r: Words)
     work[at + 6] = r.b;
     work[at + 7] = r.c;
     work[at + 8] = r.d;
-}
-
-// Stores a line as row i.
-pub fn put_row(work: &mut [u32], i: usize, l: Line)
-    requires { ⌜ (i * 9 + 9 ≤ length (now work)) × PartFits l ⌝ }
-    ensures { λ _. ⌜ now (work .exit) ≡ withRow (now (work .entry)) i l ⌝ }
-{
-    put_words(work, i * 9, row_of(l));
 }
 
 // The line that row i keeps.

@@ -172,16 +172,6 @@ index-below count n u {v} {m} {t} h = go (word n u) refl
     go (got a k r) e = test a k r e (ltb a count) refl
     go failed e = let g : _≡_ {A = Got ℕ} failed (got v m t) = rw (e, _>>=_) at h in let o : _≡_ {A = ℕ} 0 1 = cc in absurd (omega arith)
 
--- the bit that 0 or 1 numbers
-bit-is : (v : ℕ) → v < 2 → eqb v 1 ≡ getD (false ∷ true ∷ []) v false
-bit-is zero h = refl
-bit-is (suc zero) h = refl
-bit-is (suc (suc v)) h = absurd (omega arith)
-
-pub bit-got : (s : List ℕ) (n : ℕ) {v m : ℕ} → index 2 n (drop n s) ≡ got v m (drop m s) → bit n (drop n s) ≡ got (eqb v 1) m (drop m s)
-unfolding bit
-bit-got s n {v} {m} h = rw (bit-is v (index-below 2 n (drop n s) h)) (choice-got (false ∷ true ∷ []) s n false h)
-
 -- with a minus sign or without
 pub sign-past : (s : List ℕ) (i : ℕ) → length s ≤ i → sign i (drop i s) ≡ failed
 unfolding sign

@@ -10,7 +10,6 @@ use Rattle.text.specs.declared.Place.{Place}
 use Rattle.text.specs.declared.Skipped.{Skipped}
 use Rattle.text.specs.declared.DecimalRead.{DecimalRead}
 use Rattle.text.specs.declared.WordRead.{WordRead}
-use Rattle.text.specs.declared.BitRead.{BitRead}
 use Rattle.text.specs.declared.SignedRead.{SignedRead}
 use Rattle.text.specs.declared.PlaceRead.{PlaceRead}
 use Rattle.text.specs.declared.LocationRead.{LocationRead}
@@ -92,9 +91,6 @@ decimal-tells = record { value = λ h. cc; at = λ h. cc; apart = λ h. let o : 
 
 pub word-tells : Tells WordRead.Got WordRead.Failed
 word-tells = record { value = λ h. cc; at = λ h. cc; apart = λ h. let o : _≡_ {A = ℕ} 0 1 = cc in omega arith }
-
-pub bit-tells : Tells BitRead.Got BitRead.Failed
-bit-tells = record { value = λ h. cc; at = λ h. cc; apart = λ h. let o : _≡_ {A = ℕ} 0 1 = cc in omega arith }
 
 pub signed-tells : Tells SignedRead.Got SignedRead.Failed
 signed-tells = record { value = λ h. cc; at = λ h. cc; apart = λ h. let o : _≡_ {A = ℕ} 0 1 = cc in omega arith }

@@ -8,12 +8,11 @@ ghost use lib.ListN.{length, getD};
 ghost use Rattle.text.specs.declared.Skipped.{Skipped};
 ghost use Rattle.text.specs.declared.DecimalRead.{DecimalRead};
 ghost use Rattle.text.specs.declared.WordRead.{WordRead};
-ghost use Rattle.text.specs.declared.BitRead.{BitRead};
 ghost use Rattle.text.specs.declared.SignedRead.{SignedRead};
 ghost use Rattle.text.specs.declared.PlaceRead.{PlaceRead};
 ghost use Rattle.text.specs.declared.LocationRead.{LocationRead};
 ghost use Rattle.text.specs.declared.Pushed.{Pushed};
-ghost use Rattle.text.specs.Text.{readAt, byte, within, isDigit, isNameByte, isHexDigit, digits, capped, upTo, word, index, bit, afterMinus, unsigned, sign, signed, location, run, name, literal};
+ghost use Rattle.text.specs.Text.{readAt, byte, within, isDigit, isNameByte, isHexDigit, digits, capped, upTo, word, index, afterMinus, unsigned, sign, signed, location, run, name, literal};
 use ast::Location;
 use ast::Signed;
 
@@ -43,11 +42,6 @@ pub enum DecimalRead {
 
 pub enum WordRead {
     Got(u32, usize),
-    Failed,
-}
-
-pub enum BitRead {
-    Got(bool, usize),
     Failed,
 }
 
@@ -228,16 +222,6 @@ pub fn read_index(listing: &[u8], at: usize, count: u32) -> WordRead
     WordRead::Failed
 }
 
-// A field that is 0 or 1.
-pub fn read_bit(listing: &[u8], at: usize) -> BitRead
-    ensures { λ r. ⌜ r ≡ readAt BitRead.Got BitRead.Failed bit (now (listing .entry)) at ⌝ }
-{
-    let WordRead::Got(v, n) = read_index(listing, at, 2) else {
-        return BitRead::Failed;
-    };
-    BitRead::Got(v == 1, n)
-}
-
 // What follows a minus sign: at most 2^63, no zero.
 pub fn read_after_minus(listing: &[u8], at: usize) -> SignedRead
     ensures { λ r. ⌜ r ≡ readAt SignedRead.Got SignedRead.Failed afterMinus (now (listing .entry)) at ⌝ }
@@ -385,29 +369,77 @@ pub fn read_literal(listing: &[u8], at: usize) -> PlaceRead
     PlaceRead::Failed
 }
 
+// Whether a number is a digit's byte, asked of 64 bits so that what it stands for is computed once.
+fn is_wide_digit(b: u64) -> bool
+    ensures { λ r. ⌜ r ≡ isDigit b ⌝ }
+{
+    if b < 48 {
+        return false;
+    }
+    b <= 57
+}
+
+// A field that is a number of 32 bits, as `read_word` reads it: up to four digits without asking for each whether the listing goes on. It has one caller, so that it is inlined there.
+fn short_word(listing: &[u8], at: usize) -> WordRead
+    requires { ⌜ at ≤ length (now listing) ⌝ }
+    ensures { λ r. ⌜ r ≡ readAt WordRead.Got WordRead.Failed word (now (listing .entry)) at ⌝ }
+{
+    if listing.len() - at < 6 {
+        return read_word(listing, at);
+    }
+    if listing[at] != COMMA {
+        return WordRead::Failed;
+    }
+    let a = wide(listing[at + 1]);
+    if a == 48 {
+        return WordRead::Got(0, at + 2);
+    }
+    if !is_wide_digit(a) {
+        return WordRead::Failed;
+    }
+    let ones = a - 48;
+    let b = wide(listing[at + 2]);
+    if !is_wide_digit(b) {
+        return WordRead::Got(ones as u32, at + 2);
+    }
+    let tens = ones * 10 + (b - 48);
+    let c = wide(listing[at + 3]);
+    if !is_wide_digit(c) {
+        return WordRead::Got(tens as u32, at + 3);
+    }
+    let hundreds = tens * 10 + (c - 48);
+    let d = wide(listing[at + 4]);
+    if !is_wide_digit(d) {
+        return WordRead::Got(hundreds as u32, at + 4);
+    }
+    word_digits(listing, at + 5, hundreds * 10 + (d - 48))
+}
+
 // w: start, end, line, column.
 pub fn read_location(listing: &[u8], at: usize) -> LocationRead
     ensures { λ r. ⌜ r ≡ readAt LocationRead.Got LocationRead.Failed location (now (listing .entry)) at ⌝ }
 {
-    let WordRead::Got(start, n1) = read_word(listing, at) else {
+    if listing.len() < at {
         return LocationRead::Failed;
-    };
-    let WordRead::Got(end, n2) = read_word(listing, n1) else {
-        return LocationRead::Failed;
-    };
-    let WordRead::Got(line, n3) = read_word(listing, n2) else {
-        return LocationRead::Failed;
-    };
-    let WordRead::Got(column, n4) = read_word(listing, n3) else {
-        return LocationRead::Failed;
-    };
+    }
+    let mut words: [u32; 4] = [0; 4];
+    let mut next = at;
+    let mut k: usize = 0;
+    while k < 4 {
+        let WordRead::Got(v, n) = short_word(listing, next) else {
+            return LocationRead::Failed;
+        };
+        words[k] = v;
+        next = n;
+        k += 1;
+    }
     LocationRead::Got(
         Location {
-            start,
-            end,
-            line,
-            column,
+            start: words[0],
+            end: words[1],
+            line: words[2],
+            column: words[3],
         },
-        n4,
+        next,
     )
 }

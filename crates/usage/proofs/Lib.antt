@@ -5,3 +5,4 @@ pub mod Trees
 pub mod Unused
 pub mod Build
 pub mod Transfer
+pub mod Names

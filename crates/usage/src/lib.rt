@@ -1,6 +1,6 @@
 // How the items of a path are used: built, taken, handed on, left over.
 ghost use mathlib.Core.Path.{_≡_};
-ghost use Prim.Native.Nat.{ℕ, _+_, _<_, _≤_, suc};
+ghost use Prim.Native.Nat.{ℕ, _+_, _*_, _<_, _≤_, suc};
 ghost use mathlib.Core.List.{List};
 ghost use mathlib.Core.Bool.{false};
 ghost use Rattle.ast.specs.Tree.{fault};
@@ -22,15 +22,17 @@ ghost use Rattle.rules.specs.Unused.{unused};
 ghost use Rattle.rules.specs.Transfer.{transfer};
 ghost use Rattle.names.specs.Items.{ItemsAt, NamedRow, itemIn};
 ghost use Rattle.ast.specs.Tree.{same};
-ghost use lib.ListN.{replicate};
+ghost use lib.ListN.{length, replicate};
 ghost use Rattle.usage.specs.Tables.{noPlace, Built};
 ghost use Rattle.limits.specs.Somewhere.{Somewhere};
 ghost use Rattle.ast.specs.Tree.{Expression, Factor};
 ghost use Rattle.usage.specs.Walk.{SpellsExpressions, ExpressionsAt, usageAll, FactorParts, PartsAre, Walks};
+ghost use Rattle.usage.specs.Names.{hasNames, isName};
 use ast::Checked;
 use ast::CompileError;
 use ast::ErrorKind;
 use ast::Location;
+use limits::parts_below;
 use limits::skip_factor;
 use listing::ExpressionLine;
 use listing::FactorLine;
@@ -40,6 +42,7 @@ use names::same_name;
 use nodes::Answer;
 use nodes::expression_at;
 use nodes::factor_at;
+use rows::row_in;
 use text::Place;
 
 // Where an item's name stands, as the number of its row, and the listing line that took the item (0 where none). A listing has at most 1024
@@ -288,6 +291,31 @@ fn check_factors(listing: &[u8], table: &[u32], i: usize, n: u32, path: Path) ->
         left -= 1;
     }
     pass(out, next)
+}
+
+// Whether row i is a variable's line.
+fn is_name(table: &[u32], i: usize) -> bool
+    requires { ⌜ i * 9 + 9 ≤ length (now table) ⌝ }
+    ensures { λ r. ⌜ r ≡ isName (lineIn (now (table .entry)) i) ⌝ }
+{
+    row_in(table, i).kind == 118
+}
+
+// Whether any name stands in the expression at row i.
+pub fn has_names(table: &[u32], i: usize) -> bool
+    requires { ⌜ Somewhere (λ s. ExpressionAt s (now table) i) ⌝ }
+    ensures { λ r. ⌜ ((s : List ℕ) (e : Expression) (j : ℕ) → SpellsExpression (lineIn (now (table .entry))) s i e j → r ≡ hasNames e) ⌝ }
+{
+    let mut next = i;
+    let mut due: u32 = 1;
+    while 0 < due {
+        if is_name(table, next) {
+            return true;
+        }
+        due = due - 1 + parts_below(table, next);
+        next += 1;
+    }
+    false
 }
 
 // A path with no items.

@@ -1,102 +1,101 @@
-use mathlib.Core.Path.{_∙_}
+use Prim.Native.Nat.{_-_, _≤_}
+use native.Mathlib.Omega.{arith}
+use mathlib.Core.Path.{_≡_, refl, _∙_}
 use borrow.Author.Needs.{needs}
-use Rattle.text.specs.Text.{yield, word, location}
+use lib.ListN.{length}
+use Rattle.text.specs.Text.{readAt, word, location}
 use Rattle.text.specs.declared.LocationRead.{LocationRead}
 use Rattle.text.specs.declared.WordRead.{WordRead}
-use Rattle.text.proofs.Places.{word-keeps, bind-got, bind-failed}
-use Rattle.text.proofs.Told.{answer-got, answer-failed, told-got, told-failed, word-tells}
+use Rattle.text.proofs.Places.{word-keeps, bind-failed}
+use Rattle.text.proofs.Told.{answer-failed, told-got, told-failed, word-tells}
+use Rattle.text.proofs.Words.{word-past, From, from-none, from-got, from-failed, from-all}
 use Rattle.text.proofs.read_location.Statement.{statement}
 use Rattle.text.proofs.read_location.Tie as tie
 
-read-word-requires : tie.Need-read-word-requires
-read-word-requires c κs = search needs
+abbrev Inv-loop : tie.InvT-loop
+Inv-loop listing at words₀ next₀ k₀ words next k = (k ≤ 4) × (next ≤ length listing) × (From listing k words next ≡ readAt LocationRead.Got LocationRead.Failed location listing at)
 
-enum-known-start : tie.Need-enum-known-start
-enum-known-start c = search needs
+abbrev μ-loop : tie.MeasureT-loop
+μ-loop listing at words₀ next₀ k₀ words next k = 4 - k
 
-enum-told : tie.Need-enum-told
+returns : tie.Need-returns Inv-loop μ-loop
+unfolding location
+returns c = let a = c .before .before .args in answer-failed LocationRead.Got LocationRead.Failed location (a .listing .now) (a .at) (bind-failed word _ (a .listing .now) (a .at) (word-past (a .listing .now) (a .at) (omega arith)))
+
+loop-holds : tie.Need-loop-holds Inv-loop μ-loop
+loop-holds c = let a = c .before .before .args in (omega arith, omega arith, from-none (a .listing .now) (a .at))
+
+short-word-requires : tie.Need-short-word-requires Inv-loop μ-loop
+short-word-requires c κs = search needs
+
+enum-known-v : tie.Need-enum-known-v Inv-loop μ-loop
+enum-known-v c = search needs
+
+enum-told : tie.Need-enum-told Inv-loop μ-loop
 enum-told c = search needs
 
-returns : tie.Need-returns
-unfolding location
-returns c =
-    let a = c .before .before .before .before .args in
-    let s = a .listing .now in
-    answer-failed LocationRead.Got LocationRead.Failed location s (a .at) (bind-failed word _ s (a .at) (told-failed WordRead.Got WordRead.Failed word-tells word s (a .at) (c .before .before .read-word .ensures) (c .enum-told .given .1)))
-
-read-word-requires-2 : tie.Need-read-word-requires-2
-read-word-requires-2 c κs = search needs
-
-enum-known-end : tie.Need-enum-known-end
-enum-known-end c = search needs
-
-enum-told-2 : tie.Need-enum-told-2
-enum-told-2 c = search needs
-
-returns-2 : tie.Need-returns-2
-unfolding location
+returns-2 : tie.Need-returns-2 Inv-loop μ-loop
 returns-2 c =
-    let a = c .before .before .before .before .before .before .before .before .args in
-    let s = a .listing .now in
-    answer-failed LocationRead.Got LocationRead.Failed location s (a .at) (bind-got word _ s (a .at) (told-got WordRead.Got WordRead.Failed word-tells word word-keeps s (a .at) (c .before .before .before .before .before .before .read-word .ensures) (c .before .before .before .before .start .given .1)) ∙ bind-failed word _ s _ (told-failed WordRead.Got WordRead.Failed word-tells word s _ (c .before .before .read-word2 .ensures) (c .enum-told2 .given .1)))
+    let s = c .before .before .before .before .before .before .before .args .listing .now in
+    let l = c .before .before .before .before .loop in
+    from-failed s (l .k) (l .words) (l .next) (omega arith) (told-failed WordRead.Got WordRead.Failed word-tells word s (l .next) (c .before .before .short-word .ensures) (c .enum-told .given .1)) ∙ l .inv .2
 
-read-word-requires-3 : tie.Need-read-word-requires-3
-read-word-requires-3 c κs = search needs
+mul-words : tie.Need-mul-words Inv-loop μ-loop
+mul-words c = search needs
 
-enum-known-line : tie.Need-enum-known-line
-enum-known-line c = search needs
+array-write-words : tie.Need-array-write-words Inv-loop μ-loop
+array-write-words c = search needs
 
-enum-told-3 : tie.Need-enum-told-3
-enum-told-3 c = search needs
+add-k : tie.Need-add-k Inv-loop μ-loop
+add-k c = search needs
 
-returns-3 : tie.Need-returns-3
-unfolding location
+loop-less : tie.Need-loop-less Inv-loop μ-loop
+loop-less c = omega arith
+
+loop-again : tie.Need-loop-again Inv-loop μ-loop
+loop-again c =
+    let s = c .before .before .before .before .before .before .before .before .args .listing .now in
+    let l = c .before .before .before .before .before .loop in
+    let read = told-got WordRead.Got WordRead.Failed word-tells word word-keeps s (l .next) (c .before .before .before .short-word .ensures) (c .before .v .given .1) in
+    (omega arith, word-keeps s (l .next) _ refl _ _ _ read .inside (l .inv .1), from-got s (l .k) (l .words) (l .next) (omega arith) read ∙ l .inv .2)
+
+array-read-t17 : tie.Need-array-read-t17 Inv-loop μ-loop
+array-read-t17 c = search needs
+
+array-read-t20 : tie.Need-array-read-t20 Inv-loop μ-loop
+array-read-t20 c = search needs
+
+array-read-t23 : tie.Need-array-read-t23 Inv-loop μ-loop
+array-read-t23 c = search needs
+
+array-read-t26 : tie.Need-array-read-t26 Inv-loop μ-loop
+array-read-t26 c = search needs
+
+returns-3 : tie.Need-returns-3 Inv-loop μ-loop
 returns-3 c =
-    let a = c .before .before .before .before .before .before .before .before .before .before .before .before .args in
-    let s = a .listing .now in
-    answer-failed LocationRead.Got LocationRead.Failed location s (a .at) (bind-got word _ s (a .at) (told-got WordRead.Got WordRead.Failed word-tells word word-keeps s (a .at) (c .before .before .before .before .before .before .before .before .before .before .read-word .ensures) (c .before .before .before .before .before .before .before .before .start .given .1)) ∙ bind-got word _ s _ (told-got WordRead.Got WordRead.Failed word-tells word word-keeps s _ (c .before .before .before .before .before .before .read-word2 .ensures) (c .before .before .before .before .end .given .1)) ∙ bind-failed word _ s _ (told-failed WordRead.Got WordRead.Failed word-tells word s _ (c .before .before .read-word3 .ensures) (c .enum-told3 .given .1)))
-
-read-word-requires-4 : tie.Need-read-word-requires-4
-read-word-requires-4 c κs = search needs
-
-enum-known-column : tie.Need-enum-known-column
-enum-known-column c = search needs
-
-enum-told-4 : tie.Need-enum-told-4
-enum-told-4 c = search needs
-
-returns-4 : tie.Need-returns-4
-unfolding location
-returns-4 c =
-    let a = c .before .before .before .before .before .before .before .before .before .before .before .before .before .before .before .before .args in
-    let s = a .listing .now in
-    answer-failed LocationRead.Got LocationRead.Failed location s (a .at) (bind-got word _ s (a .at) (told-got WordRead.Got WordRead.Failed word-tells word word-keeps s (a .at) (c .before .before .before .before .before .before .before .before .before .before .before .before .before .before .read-word .ensures) (c .before .before .before .before .before .before .before .before .before .before .before .before .start .given .1)) ∙ bind-got word _ s _ (told-got WordRead.Got WordRead.Failed word-tells word word-keeps s _ (c .before .before .before .before .before .before .before .before .before .before .read-word2 .ensures) (c .before .before .before .before .before .before .before .before .end .given .1)) ∙ bind-got word _ s _ (told-got WordRead.Got WordRead.Failed word-tells word word-keeps s _ (c .before .before .before .before .before .before .read-word3 .ensures) (c .before .before .before .before .line .given .1)) ∙ bind-failed word _ s _ (told-failed WordRead.Got WordRead.Failed word-tells word s _ (c .before .before .read-word4 .ensures) (c .enum-told4 .given .1)))
-
-returns-5 : tie.Need-returns-5
-unfolding location yield
-returns-5 c =
-    let a = c .before .before .before .before .before .before .before .before .before .before .before .before .before .before .before .before .before .args in
-    let s = a .listing .now in
-    answer-got LocationRead.Got LocationRead.Failed location s (a .at) (bind-got word _ s (a .at) (told-got WordRead.Got WordRead.Failed word-tells word word-keeps s (a .at) (c .before .before .before .before .before .before .before .before .before .before .before .before .before .before .before .read-word .ensures) (c .before .before .before .before .before .before .before .before .before .before .before .before .before .start .given .1)) ∙ bind-got word _ s _ (told-got WordRead.Got WordRead.Failed word-tells word word-keeps s _ (c .before .before .before .before .before .before .before .before .before .before .before .read-word2 .ensures) (c .before .before .before .before .before .before .before .before .before .end .given .1)) ∙ bind-got word _ s _ (told-got WordRead.Got WordRead.Failed word-tells word word-keeps s _ (c .before .before .before .before .before .before .before .read-word3 .ensures) (c .before .before .before .before .before .line .given .1)) ∙ bind-got word _ s _ (told-got WordRead.Got WordRead.Failed word-tells word word-keeps s _ (c .before .before .before .read-word4 .ensures) (c .before .column .given .1)))
+    let s = c .before .before .before .before .args .listing .now in
+    let l = c .before .loop in
+    from-all s (l .k) (l .words) (l .next) (omega arith) ∙ l .inv .2
 
 pub read-location-spec : {M : Type 1} → statement M
 read-location-spec =
     tie.close
     (tie.spec
-    read-word-requires
-    enum-known-start
-    enum-told
+    Inv-loop
+    μ-loop
     returns
-    read-word-requires-2
-    enum-known-end
-    enum-told-2
+    loop-holds
+    short-word-requires
+    enum-known-v
+    enum-told
     returns-2
-    read-word-requires-3
-    enum-known-line
-    enum-told-3
-    returns-3
-    read-word-requires-4
-    enum-known-column
-    enum-told-4
-    returns-4
-    returns-5)
+    mul-words
+    array-write-words
+    add-k
+    loop-less
+    loop-again
+    array-read-t17
+    array-read-t20
+    array-read-t23
+    array-read-t26
+    returns-3)

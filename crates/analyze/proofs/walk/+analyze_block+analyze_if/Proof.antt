@@ -19,9 +19,9 @@ use Rattle.nodes.proofs.Laws.{below, statement-is, block-is, statement-holds, b
 use Rattle.rules.specs.Result.{ok}
 use Rattle.rules.specs.Walk.{walkStatement, walk}
 use Rattle.usage.specs.Path.{tableOf}
-use Rattle.analyze.specs.State.{tablesWith, Ready, InUse, Told, nextIn, branchIn}
+use Rattle.analyze.specs.State.{tablesWith, Ready, InUse, Told, nextIn, branchIn, rowAfter}
 use Rattle.analyze.proofs.State.{moved-refused, turned-says, turned-branch}
-use Rattle.analyze.proofs.Statements.{moved-as, moved-stop, moved-on, moved-end, statement-below, at-next, expression-below, Going, first, head-within, going-err, going-on, going-as, going-end, if-parts, if-holds, conditioned, block-stops, if-only, else-parts, ElseLeft}
+use Rattle.analyze.proofs.Statements.{moved-as, moved-stop, moved-on, moved-end, statement-below, at-next, expression-below, Going, first, head-within, going-err, going-on, going-last, going-as, going-end, if-parts, if-holds, conditioned, block-stops, if-only, else-parts, ElseLeft}
 use Rattle.analyze.proofs.Walking.{read-here, put-back, put-nowhere, in-use, tables-same, else-stops, else-passes, crossed-within}
 use borrow.Fn.Kinds.{In}
 use borrow.Fn.PlainCycle.{Measures, is, falls, and}
@@ -38,6 +38,7 @@ use Rattle.analyze.proofs.walk.path_in_use.Reads as path-in-use-reads
 use Rattle.analyze.proofs.walk.put_branch.Reads as put-branch-reads
 use Rattle.analyze.proofs.walk.put_pass.Reads as put-pass-reads
 use Rattle.analyze.proofs.walk.refuse.Reads as refuse-reads
+use Rattle.analyze.proofs.walk.row_after.Reads as row-after-reads
 use Rattle.nodes.proofs.block_at.Reads as block-at-reads
 use Rattle.analyze.proofs.walk.+analyze_block+analyze_if.{statement}
 use Rattle.analyze.proofs.walk.+analyze_block+analyze_if.Tie.{close}
@@ -78,6 +79,8 @@ analyze-block-calls t = (
   refuse-reads.Learnt,
   examine-at-reads.Asked,
   examine-at-reads.Learnt,
+  row-after-reads.Asked,
+  row-after-reads.Learnt,
   analyze-if-below t,
   analyze-if.Post,
   path-in-use-reads.Asked,
@@ -123,14 +126,18 @@ analyze-block-loop-holds t c =
 analyze-block-add-k : (t : ℕ) → analyze-block-lts.Need-add-k (analyze-block-calls t) (analyze-block-at t) analyze-block.Post analyze-block-Inv-loop analyze-block-μ-loop
 analyze-block-add-k t c = omega (arith, c .before .before .block-at .ok)
 
+analyze-block-element-copy-out-analyze-statement :
+    (t : ℕ) → analyze-block-lts.Need-element-copy-out-analyze-statement (analyze-block-calls t) (analyze-block-at t) analyze-block.Post analyze-block-Inv-loop analyze-block-μ-loop
+analyze-block-element-copy-out-analyze-statement t c = search needs
+
 analyze-block-analyze-statement-requires : (t : ℕ) → analyze-block-lts.Need-analyze-statement-requires (analyze-block-calls t) (analyze-block-at t) analyze-block.Post analyze-block-Inv-loop analyze-block-μ-loop
 analyze-block-analyze-statement-requires t c κs =
-    let st = c .before .before .before .before .before .pre .1 .0 in
-    let l = c .before .loop in
-    let more = c .loop-test .taken in
+    let st = c .before .before .before .before .before .before .pre .1 .0 in
+    let l = c .before .before .loop in
+    let more = c .before .loop-test .taken in
     let h = l .inv .5 (st .tree) (st .next) (st .spells) in
     let f = first h more in
-    (_, statement-below st (f .spells) (head-within h more))
+    (statement-below st (f .spells) (head-within h more), λ within. l .inv .4 within .items, l .inv .1 .few)
 
 analyze-block-enum-known-step : (t : ℕ) → analyze-block-lts.Need-enum-known-step (analyze-block-calls t) (analyze-block-at t) analyze-block.Post analyze-block-Inv-loop analyze-block-μ-loop
 analyze-block-enum-known-step t c = search needs
@@ -140,13 +147,13 @@ analyze-block-loop-less t c = omega arith
 
 analyze-block-loop-again : (t : ℕ) → analyze-block-lts.Need-loop-again (analyze-block-calls t) (analyze-block-at t) analyze-block.Post analyze-block-Inv-loop analyze-block-μ-loop
 analyze-block-loop-again t c =
-    let a = c .before .before .before .before .before .before .before .before .before .args in
-    let st = c .before .before .before .before .before .before .before .before .before .pre .1 .0 in
-    let l = c .before .before .before .before .before .loop in
-    let more = c .before .before .before .before .loop-test .taken in
+    let a = c .before .before .before .before .before .before .before .before .before .before .args in
+    let st = c .before .before .before .before .before .before .before .before .before .before .pre .1 .0 in
+    let l = c .before .before .before .before .before .before .loop in
+    let more = c .before .before .before .before .before .loop-test .taken in
     let h = l .inv .5 (st .tree) (st .next) (st .spells) in
     let f = first h more in
-    let on = subst (Told (a .listing .now) (a .table .now) (f .head) (l .next) (f .mid)) (c .before .step .given .1) (c .before .before .before .analyze-statement .ensures _ (f .head) (f .mid) (f .spells)) in (
+    let on = subst (Told (a .listing .now) (a .table .now) (a .d) (branchIn (l .out)) (f .head) (l .next) (f .mid)) (c .before .step .given .1) (c .before .before .before .analyze-statement .ensures (f .head) (f .mid) (f .spells)) in (
       omega arith,
       l .inv .1,
       l .inv .2,
@@ -155,8 +162,8 @@ analyze-block-loop-again t c =
       λ b j sp.
           let h′ = l .inv .5 b j sp in
           let f′ = first h′ more in
-          let on′ = subst (Told (a .listing .now) (a .table .now) (f′ .head) (l .next) (f′ .mid)) (c .before .step .given .1) (c .before .before .before .analyze-statement .ensures _ (f′ .head) (f′ .mid) (f′ .spells)) in
-          going-on h′ more _ (on′ .1 _ _ _) (on′ .0),
+          let on′ = subst (Told (a .listing .now) (a .table .now) (a .d) (branchIn (l .out)) (f′ .head) (l .next) (f′ .mid)) (c .before .step .given .1) (c .before .before .before .analyze-statement .ensures (f′ .head) (f′ .mid) (f′ .spells)) in
+          going-on h′ more _ (on′ .1 _ _ _ (l .inv .4)) (on′ .0),
     )
 
 analyze-block-enum-known-step-2 : (t : ℕ) → analyze-block-lts.Need-enum-known-step-2 (analyze-block-calls t) (analyze-block-at t) analyze-block.Post analyze-block-Inv-loop analyze-block-μ-loop
@@ -164,19 +171,19 @@ analyze-block-enum-known-step-2 t c = search needs
 
 analyze-block-refuse-requires : (t : ℕ) → analyze-block-lts.Need-refuse-requires (analyze-block-calls t) (analyze-block-at t) analyze-block.Post analyze-block-Inv-loop analyze-block-μ-loop
 analyze-block-refuse-requires t c κs =
-    let l = c .before .before .before .before .before .before .before .loop in
+    let l = c .before .before .before .before .before .before .before .before .loop in
     (l .inv .1 .taken-full, l .inv .2)
 
 analyze-block-returns : (t : ℕ) → analyze-block-lts.Need-returns (analyze-block-calls t) (analyze-block-at t) analyze-block.Post analyze-block-Inv-loop analyze-block-μ-loop
 analyze-block-returns t c =
-    let a = c .before .before .before .before .before .before .before .before .before .before .before .before .args in
-    let l = c .before .before .before .before .before .before .before .before .loop in
-    let more = c .before .before .before .before .before .before .before .loop-test .taken in
+    let a = c .before .before .before .before .before .before .before .before .before .before .before .before .before .args in
+    let l = c .before .before .before .before .before .before .before .before .before .loop in
+    let more = c .before .before .before .before .before .before .before .before .loop-test .taken in
     λ b j sp.
     let h = l .inv .5 b j sp in
     let f = first h more in
-    let no = subst (Told (a .listing .now) (a .table .now) (f .head) (l .next) (f .mid)) (c .before .before .before .before .step2 .given .1) (c .before .before .before .before .before .before .analyze-statement .ensures _ (f .head) (f .mid) (f .spells)) in
-    moved-refused (c .refuse .ensures) (going-err h more _ (no _ _ _))
+    let no = subst (Told (a .listing .now) (a .table .now) (a .d) (branchIn (l .out)) (f .head) (l .next) (f .mid)) (c .before .before .before .before .step2 .given .1) (c .before .before .before .before .before .before .analyze-statement .ensures (f .head) (f .mid) (f .spells)) in
+    moved-refused (c .refuse .ensures) (going-err h more _ (no _ _ _ (l .inv .4)))
 
 analyze-block-enum-known-step-3 : (t : ℕ) → analyze-block-lts.Need-enum-known-step-3 (analyze-block-calls t) (analyze-block-at t) analyze-block.Post analyze-block-Inv-loop analyze-block-μ-loop
 analyze-block-enum-known-step-3 t c = search needs
@@ -186,22 +193,22 @@ analyze-block-element-copy-out-examine-at t c = search needs
 
 analyze-block-add-examine-at : (t : ℕ) → analyze-block-lts.Need-add-examine-at (analyze-block-calls t) (analyze-block-at t) analyze-block.Post analyze-block-Inv-loop analyze-block-μ-loop
 analyze-block-add-examine-at t c =
-    let st = c .before .before .before .before .before .before .before .before .before .before .pre .1 .0 in
-    let l = c .before .before .before .before .before .before .loop in
-    let more = c .before .before .before .before .before .loop-test .taken in
+    let st = c .before .before .before .before .before .before .before .before .before .before .before .pre .1 .0 in
+    let l = c .before .before .before .before .before .before .before .loop in
+    let more = c .before .before .before .before .before .before .loop-test .taken in
     let h = l .inv .5 (st .tree) (st .next) (st .spells) in
     let f = first h more in
     omega (arith, statement-on _ _ (f .spells), head-within h more, st .within, st .rows .few)
 
 analyze-block-examine-at-requires : (t : ℕ) → analyze-block-lts.Need-examine-at-requires (analyze-block-calls t) (analyze-block-at t) analyze-block.Post analyze-block-Inv-loop analyze-block-μ-loop
 analyze-block-examine-at-requires t c κs =
-    let a = c .before .before .before .before .before .before .before .before .before .before .args in
-    let st = c .before .before .before .before .before .before .before .before .before .before .pre .1 .0 in
-    let l = c .before .before .before .before .before .before .loop in
-    let more = c .before .before .before .before .before .loop-test .taken in
+    let a = c .before .before .before .before .before .before .before .before .before .before .before .args in
+    let st = c .before .before .before .before .before .before .before .before .before .before .before .pre .1 .0 in
+    let l = c .before .before .before .before .before .before .before .loop in
+    let more = c .before .before .before .before .before .before .loop-test .taken in
     let h = l .inv .5 (st .tree) (st .next) (st .spells) in
     let f = first h more in
-    let x = subst (Told (a .listing .now) (a .table .now) (f .head) (l .next) (f .mid)) (c .before .before .step3 .given .1) (c .before .before .before .before .analyze-statement .ensures _ (f .head) (f .mid) (f .spells)) in
+    let x = subst (Told (a .listing .now) (a .table .now) (a .d) (branchIn (l .out)) (f .head) (l .next) (f .mid)) (c .before .before .step3 .given .1) (c .before .before .before .before .analyze-statement .ensures (f .head) (f .mid) (f .spells)) in
     (expression-below st (x .1) (head-within h more), l .inv .4, l .inv .1 .few)
 
 analyze-block-enum-known-answer : (t : ℕ) → analyze-block-lts.Need-enum-known-answer (analyze-block-calls t) (analyze-block-at t) analyze-block.Post analyze-block-Inv-loop analyze-block-μ-loop
@@ -209,53 +216,54 @@ analyze-block-enum-known-answer t c = search needs
 
 analyze-block-refuse-requires-2 : (t : ℕ) → analyze-block-lts.Need-refuse-requires-2 (analyze-block-calls t) (analyze-block-at t) analyze-block.Post analyze-block-Inv-loop analyze-block-μ-loop
 analyze-block-refuse-requires-2 t c κs =
-    let l = c .before .before .before .before .before .before .before .before .before .before .before .before .loop in
+    let l = c .before .before .before .before .before .before .before .before .before .before .before .before .before .loop in
     (l .inv .1 .taken-full, l .inv .2)
 
 analyze-block-returns-2 : (t : ℕ) → analyze-block-lts.Need-returns-2 (analyze-block-calls t) (analyze-block-at t) analyze-block.Post analyze-block-Inv-loop analyze-block-μ-loop
 analyze-block-returns-2 t c =
-    let a = c .before .before .before .before .before .before .before .before .before .before .before .before .before .before .before .before .before .args in
-    let l = c .before .before .before .before .before .before .before .before .before .before .before .before .before .loop in
-    let more = c .before .before .before .before .before .before .before .before .before .before .before .before .loop-test .taken in
+    let a = c .before .before .before .before .before .before .before .before .before .before .before .before .before .before .before .before .before .before .args in
+    let l = c .before .before .before .before .before .before .before .before .before .before .before .before .before .before .loop in
+    let more = c .before .before .before .before .before .before .before .before .before .before .before .before .before .loop-test .taken in
     λ b j sp.
     let h = l .inv .5 b j sp in
     let f = first h more in
-    let x = subst (Told (a .listing .now) (a .table .now) (f .head) (l .next) (f .mid)) (c .before .before .before .before .before .before .before .before .before .step3 .given .1) (c .before .before .before .before .before .before .before .before .before .before .before .analyze-statement .ensures _ (f .head) (f .mid) (f .spells)) in
+    let x = subst (Told (a .listing .now) (a .table .now) (a .d) (branchIn (l .out)) (f .head) (l .next) (f .mid)) (c .before .before .before .before .before .before .before .before .before .step3 .given .1) (c .before .before .before .before .before .before .before .before .before .before .before .analyze-statement .ensures (f .head) (f .mid) (f .spells)) in
     let T = c .before .before .before .before .before .before .examine-at .ensures (x .0) (f .mid) (at-next (x .1)) in
-    moved-refused (c .refuse2 .ensures) (going-err h more _ (x .2 _ _ _ ∙ T .stops _ (c .before .before .before .before .answer .given .1) (l .rows) (l .taken)))
+    moved-refused (c .refuse2 .ensures) (going-err h more _ (x .2 _ _ _ (l .inv .4) ∙ T .stops _ (c .before .before .before .before .answer .given .1) (l .rows) (l .taken)))
 
-analyze-block-enum-known-answer-2 : (t : ℕ) → analyze-block-lts.Need-enum-known-answer-2 (analyze-block-calls t) (analyze-block-at t) analyze-block.Post analyze-block-Inv-loop analyze-block-μ-loop
-analyze-block-enum-known-answer-2 t c = search needs
+analyze-block-enum-told : (t : ℕ) → analyze-block-lts.Need-enum-told (analyze-block-calls t) (analyze-block-at t) analyze-block.Post analyze-block-Inv-loop analyze-block-μ-loop
+analyze-block-enum-told t c = search needs
 
-analyze-block-cast-next : (t : ℕ) → analyze-block-lts.Need-cast-next (analyze-block-calls t) (analyze-block-at t) analyze-block.Post analyze-block-Inv-loop analyze-block-μ-loop
-analyze-block-cast-next t c = search needs
+analyze-block-row-after-requires : (t : ℕ) → analyze-block-lts.Need-row-after-requires (analyze-block-calls t) (analyze-block-at t) analyze-block.Post analyze-block-Inv-loop analyze-block-μ-loop
+analyze-block-row-after-requires t c κs = search needs
 
 analyze-block-loop-less-2 : (t : ℕ) → analyze-block-lts.Need-loop-less-2 (analyze-block-calls t) (analyze-block-at t) analyze-block.Post analyze-block-Inv-loop analyze-block-μ-loop
 analyze-block-loop-less-2 t c = omega arith
 
 analyze-block-loop-again-2 : (t : ℕ) → analyze-block-lts.Need-loop-again-2 (analyze-block-calls t) (analyze-block-at t) analyze-block.Post analyze-block-Inv-loop analyze-block-μ-loop
 analyze-block-loop-again-2 t c =
-    let a = c .before .before .before .before .before .before .before .before .before .before .before .before .before .before .before .args in
-    let st = c .before .before .before .before .before .before .before .before .before .before .before .before .before .before .before .pre .1 .0 in
-    let l = c .before .before .before .before .before .before .before .before .before .before .before .loop in
-    let more = c .before .before .before .before .before .before .before .before .before .before .loop-test .taken in
+    let a = c .before .before .before .before .before .before .before .before .before .before .before .before .before .before .before .before .args in
+    let st = c .before .before .before .before .before .before .before .before .before .before .before .before .before .before .before .before .pre .1 .0 in
+    let l = c .before .before .before .before .before .before .before .before .before .before .before .before .loop in
+    let more = c .before .before .before .before .before .before .before .before .before .before .before .loop-test .taken in
     let h = l .inv .5 (st .tree) (st .next) (st .spells) in
     let f = first h more in
-    let x = subst (Told (a .listing .now) (a .table .now) (f .head) (l .next) (f .mid)) (c .before .before .before .before .before .before .before .step3 .given .1) (c .before .before .before .before .before .before .before .before .before .analyze-statement .ensures _ (f .head) (f .mid) (f .spells)) in
-    let is = c .before .before .answer2 .given .1 in
+    let x = subst (Told (a .listing .now) (a .table .now) (a .d) (branchIn (l .out)) (f .head) (l .next) (f .mid)) (c .before .before .before .before .before .before .before .step3 .given .1) (c .before .before .before .before .before .before .before .before .before .analyze-statement .ensures (f .head) (f .mid) (f .spells)) in
+    let is = c .before .before .enum-told .given .1 in
+    let row = c .row-after .ensures ∙ ap rowAfter is in
     let on = c .before .before .before .before .examine-at .ensures (x .0) (f .mid) (at-next (x .1)) .passes _ is in
     let low = head-within h more in (
       omega arith,
       l .inv .1,
       l .inv .2,
-      omega (arith, on .0, low, st .within, st .rows .few, statement-on _ _ (f .spells)),
+      omega (arith, row, on .0, low, st .within, st .rows .few, statement-on _ _ (f .spells)),
       on .1 .in-use,
       λ b j sp.
           let h′ = l .inv .5 b j sp in
           let f′ = first h′ more in
-          let x′ = subst (Told (a .listing .now) (a .table .now) (f′ .head) (l .next) (f′ .mid)) (c .before .before .before .before .before .before .before .step3 .given .1) (c .before .before .before .before .before .before .before .before .before .analyze-statement .ensures _ (f′ .head) (f′ .mid) (f′ .spells)) in
+          let x′ = subst (Told (a .listing .now) (a .table .now) (a .d) (branchIn (l .out)) (f′ .head) (l .next) (f′ .mid)) (c .before .before .before .before .before .before .before .step3 .given .1) (c .before .before .before .before .before .before .before .before .before .analyze-statement .ensures (f′ .head) (f′ .mid) (f′ .spells)) in
           let on′ = c .before .before .before .before .examine-at .ensures (x′ .0) (f′ .mid) (at-next (x′ .1)) .passes _ is in
-          going-on h′ more _ (x′ .2 _ _ _ ∙ on′ .1 .result (l .rows) (l .taken)) (omega (arith, on .0, on′ .0, low, st .within, st .rows .few)),
+          going-on h′ more _ (x′ .2 _ _ _ (l .inv .4) ∙ on′ .1 .result (l .rows) (l .taken)) (omega (arith, row, on .0, on′ .0, low, st .within, st .rows .few)),
     )
 
 analyze-block-enum-known-step-4 : (t : ℕ) → analyze-block-lts.Need-enum-known-step-4 (analyze-block-calls t) (analyze-block-at t) analyze-block.Post analyze-block-Inv-loop analyze-block-μ-loop
@@ -263,17 +271,14 @@ analyze-block-enum-known-step-4 t c = search needs
 
 analyze-block-analyze-if-requires : (t : ℕ) → analyze-block-lts.Need-analyze-if-requires (analyze-block-calls t) (analyze-block-at t) analyze-block.Post analyze-block-Inv-loop analyze-block-μ-loop
 analyze-block-analyze-if-requires t c κs =
-    let a = c .before .before .before .before .before .before .before .before .before .before .before .args in
-    let st = c .before .before .before .before .before .before .before .before .before .before .before .pre .1 .0 in
-    let l = c .before .before .before .before .before .before .before .loop in
-    let more = c .before .before .before .before .before .before .loop-test .taken in
+    let a = c .before .before .before .before .before .before .before .before .before .before .before .before .before .args in
+    let st = c .before .before .before .before .before .before .before .before .before .before .before .before .before .pre .1 .0 in
+    let l = c .before .before .before .before .before .before .before .before .before .loop in
+    let more = c .before .before .before .before .before .before .before .before .loop-test .taken in
     let h = l .inv .5 (st .tree) (st .next) (st .spells) in
     let f = first h more in
     let room = block-holds st .room in
-    (omega (arith, c .before .before .before .before .before .before .before .before .before .before .before .pre .0), (statement-below st (f .spells) (head-within h more), l .inv .1, l .inv .2, l .inv .4, subst (Told (a .listing .now) (a .table .now) (f .head) (l .next) (f .mid)) (c .before .before .before .step4 .given .1) (c .before .before .before .before .before .analyze-statement .ensures _ (f .head) (f .mid) (f .spells))))
-
-analyze-block-element-copy-out-if1 : (t : ℕ) → analyze-block-lts.Need-element-copy-out-if1 (analyze-block-calls t) (analyze-block-at t) analyze-block.Post analyze-block-Inv-loop analyze-block-μ-loop
-analyze-block-element-copy-out-if1 t c = search needs
+    (omega (arith, c .before .before .before .before .before .before .before .before .before .before .before .before .before .pre .0), (statement-below st (f .spells) (head-within h more), l .inv .1, l .inv .2, l .inv .4, subst (Told (a .listing .now) (a .table .now) (a .d) (branchIn (l .out)) (f .head) (l .next) (f .mid)) (c .before .before .before .before .step4 .given .1) (c .before .before .before .before .before .before .analyze-statement .ensures (f .head) (f .mid) (f .spells))))
 
 analyze-block-returns-3 : (t : ℕ) → analyze-block-lts.Need-returns-3 (analyze-block-calls t) (analyze-block-at t) analyze-block.Post analyze-block-Inv-loop analyze-block-μ-loop
 analyze-block-returns-3 t c =
@@ -282,7 +287,31 @@ analyze-block-returns-3 t c =
     λ b j sp.
     let h = l .inv .5 b j sp in
     let f = first h more in
-    moved-stop (c .before .before .analyze-if .ensures (f .head) (f .mid) (f .spells)) (c .if1 .taken) _ j (going-err h more)
+    let e = going-last h more (omega (arith, c .before .before .before .if1 .taken)) in
+    moved-as (c .analyze-if .ensures (f .head) (f .mid) (f .spells)) (e .0) (e .1)
+
+analyze-block-analyze-if-requires-2 : (t : ℕ) → analyze-block-lts.Need-analyze-if-requires-2 (analyze-block-calls t) (analyze-block-at t) analyze-block.Post analyze-block-Inv-loop analyze-block-μ-loop
+analyze-block-analyze-if-requires-2 t c κs =
+    let a = c .before .before .before .before .before .before .before .before .before .before .before .before .before .args in
+    let st = c .before .before .before .before .before .before .before .before .before .before .before .before .before .pre .1 .0 in
+    let l = c .before .before .before .before .before .before .before .before .before .loop in
+    let more = c .before .before .before .before .before .before .before .before .loop-test .taken in
+    let h = l .inv .5 (st .tree) (st .next) (st .spells) in
+    let f = first h more in
+    let room = block-holds st .room in
+    (omega (arith, c .before .before .before .before .before .before .before .before .before .before .before .before .before .pre .0), (statement-below st (f .spells) (head-within h more), l .inv .1, l .inv .2, l .inv .4, subst (Told (a .listing .now) (a .table .now) (a .d) (branchIn (l .out)) (f .head) (l .next) (f .mid)) (c .before .before .before .before .step4 .given .1) (c .before .before .before .before .before .before .analyze-statement .ensures (f .head) (f .mid) (f .spells))))
+
+analyze-block-element-copy-out-if2 : (t : ℕ) → analyze-block-lts.Need-element-copy-out-if2 (analyze-block-calls t) (analyze-block-at t) analyze-block.Post analyze-block-Inv-loop analyze-block-μ-loop
+analyze-block-element-copy-out-if2 t c = search needs
+
+analyze-block-returns-4 : (t : ℕ) → analyze-block-lts.Need-returns-4 (analyze-block-calls t) (analyze-block-at t) analyze-block.Post analyze-block-Inv-loop analyze-block-μ-loop
+analyze-block-returns-4 t c =
+    let l = c .before .before .before .before .before .before .before .before .before .before .before .before .loop in
+    let more = c .before .before .before .before .before .before .before .before .before .before .before .loop-test .taken in
+    λ b j sp.
+    let h = l .inv .5 b j sp in
+    let f = first h more in
+    moved-stop (c .before .before .analyze-if2 .ensures (f .head) (f .mid) (f .spells)) (c .if2 .taken) _ j (going-err h more)
 
 analyze-block-element-copy-out-path-in-use :
     (t : ℕ) → analyze-block-lts.Need-element-copy-out-path-in-use (analyze-block-calls t) (analyze-block-at t) analyze-block.Post analyze-block-Inv-loop analyze-block-μ-loop
@@ -303,7 +332,7 @@ analyze-block-element-copy-out-path-in-use-2 :
 analyze-block-element-copy-out-path-in-use-2 t c = search needs
 
 analyze-block-path-in-use-requires : (t : ℕ) → analyze-block-lts.Need-path-in-use-requires (analyze-block-calls t) (analyze-block-at t) analyze-block.Post analyze-block-Inv-loop analyze-block-μ-loop
-analyze-block-path-in-use-requires t c κs = c .before .before .before .before .before .before .before .before .before .before .before .before .before .before .loop .inv .1 .few
+analyze-block-path-in-use-requires t c κs = c .before .before .before .before .before .before .before .before .before .before .before .before .before .before .before .before .loop .inv .1 .few
 
 analyze-block-element-copy-out-next : (t : ℕ) → analyze-block-lts.Need-element-copy-out-next (analyze-block-calls t) (analyze-block-at t) analyze-block.Post analyze-block-Inv-loop analyze-block-μ-loop
 analyze-block-element-copy-out-next t c = search needs
@@ -313,16 +342,16 @@ analyze-block-loop-less-3 t c = omega arith
 
 analyze-block-loop-again-3 : (t : ℕ) → analyze-block-lts.Need-loop-again-3 (analyze-block-calls t) (analyze-block-at t) analyze-block.Post analyze-block-Inv-loop analyze-block-μ-loop
 analyze-block-loop-again-3 t c =
-    let a = c .before .before .before .before .before .before .before .before .before .before .before .before .before .before .before .before .before .before .before .before .args in
-    let st = c .before .before .before .before .before .before .before .before .before .before .before .before .before .before .before .before .before .before .before .before .pre .1 .0 in
-    let l = c .before .before .before .before .before .before .before .before .before .before .before .before .before .before .before .before .loop in
-    let more = c .before .before .before .before .before .before .before .before .before .before .before .before .before .before .before .loop-test .taken in
+    let a = c .before .before .before .before .before .before .before .before .before .before .before .before .before .before .before .before .before .before .before .before .before .before .args in
+    let st = c .before .before .before .before .before .before .before .before .before .before .before .before .before .before .before .before .before .before .before .before .before .before .pre .1 .0 in
+    let l = c .before .before .before .before .before .before .before .before .before .before .before .before .before .before .before .before .before .before .loop in
+    let more = c .before .before .before .before .before .before .before .before .before .before .before .before .before .before .before .before .before .loop-test .taken in
     let h = l .inv .5 (st .tree) (st .next) (st .spells) in
     let f = first h more in
-    let z = c .before .before .before .before .before .before .if1 .left in
-    let m = c .before .before .before .before .before .before .before .before .analyze-if .ensures (f .head) (f .mid) (f .spells) in
+    let z = c .before .before .before .before .before .before .if2 .left in
+    let m = c .before .before .before .before .before .before .before .before .analyze-if2 .ensures (f .head) (f .mid) (f .spells) in
     let r = m .ready z in
-    let load = read-here (a .d) (c .before .before .before .before .before .before .before .before .analyze-if .result) (c .before .before .before .before .before .before .before .before .analyze-if .last .1 .1 .1 .1 .1 .1 .1 .1 .0) (branchIn (c .before .before .before .before .before .before .before .before .analyze-if .last .1 .1 .1 .1 .1 .1 .1 .1 .1 .0)) (r .few) (c .before .path-in-use .ensures .0) in (
+    let load = read-here (a .d) (c .before .before .before .before .before .before .before .before .analyze-if2 .result) (c .before .before .before .before .before .before .before .before .analyze-if2 .last .1 .1 .1 .1 .1 .1 .1 .1 .0) (branchIn (c .before .before .before .before .before .before .before .before .analyze-if2 .last .1 .1 .1 .1 .1 .1 .1 .1 .1 .0)) (r .few) (c .before .path-in-use .ensures .0) in (
       omega arith,
       r,
       m .full,
@@ -331,7 +360,7 @@ analyze-block-loop-again-3 t c =
       λ b j sp.
           let h = l .inv .5 b j sp in
           let f = first h more in
-          let n = c .before .before .before .before .before .before .before .before .analyze-if .ensures (f .head) (f .mid) (f .spells) in
+          let n = c .before .before .before .before .before .before .before .before .analyze-if2 .ensures (f .head) (f .mid) (f .spells) in
           going-as (going-on h more _ (moved-on n z) (n .next z)) (tables-same _ _ (a .d) _ _ _ r load),
     )
 
@@ -359,22 +388,22 @@ analyze-block-mul-taken t c = search needs
 analyze-block-element-write-taken : (t : ℕ) → analyze-block-lts.Need-element-write-taken (analyze-block-calls t) (analyze-block-at t) analyze-block.Post analyze-block-Inv-loop analyze-block-μ-loop
 analyze-block-element-write-taken t c = search needs
 
-analyze-block-returns-4 : (t : ℕ) → analyze-block-lts.Need-returns-4 (analyze-block-calls t) (analyze-block-at t) analyze-block.Post analyze-block-Inv-loop analyze-block-μ-loop
-analyze-block-returns-4 t c =
+analyze-block-returns-5 : (t : ℕ) → analyze-block-lts.Need-returns-5 (analyze-block-calls t) (analyze-block-at t) analyze-block.Post analyze-block-Inv-loop analyze-block-μ-loop
+analyze-block-returns-5 t c =
     let a = c .before .before .before .before .before .before .before .before .before .before .before .args in
     let l = c .before .before .before .before .before .before .before .loop in
     let gone = c .before .before .before .before .before .before .loop-test .left in
-    let kept = put-back _ _ (a .d) (l .rows) (l .taken) (branchIn (l .out)) (l .inv .1) (l .path) (c .before .if2 .taken) (l .inv .4) in
+    let kept = put-back _ _ (a .d) (l .rows) (l .taken) (branchIn (l .out)) (l .inv .1) (l .path) (c .before .if3 .taken) (l .inv .4) in
     λ b j sp.
     let e = going-end (l .inv .5 b j sp) (omega arith) in
     moved-end (a .d) _ _ (l .out) _ (l .inv .2) (kept .ready) (e .0 ∙ ap (λ ts. ok (record { tables = ts; branch = branchIn (l .out) })) (sym (kept .tables)), e .1) (c .before .before .before .put-pass .ensures)
 
-analyze-block-returns-5 : (t : ℕ) → analyze-block-lts.Need-returns-5 (analyze-block-calls t) (analyze-block-at t) analyze-block.Post analyze-block-Inv-loop analyze-block-μ-loop
-analyze-block-returns-5 t c =
+analyze-block-returns-6 : (t : ℕ) → analyze-block-lts.Need-returns-6 (analyze-block-calls t) (analyze-block-at t) analyze-block.Post analyze-block-Inv-loop analyze-block-μ-loop
+analyze-block-returns-6 t c =
     let a = c .before .before .before .before .before .before .before .before .before .before .args in
     let l = c .before .before .before .before .before .before .loop in
     let gone = c .before .before .before .before .before .loop-test .left in
-    let kept = put-nowhere _ _ (a .d) (l .rows) (l .taken) (branchIn (l .out)) (l .inv .1) (l .path) (c .if2 .left) in
+    let kept = put-nowhere _ _ (a .d) (l .rows) (l .taken) (branchIn (l .out)) (l .inv .1) (l .path) (c .if3 .left) in
     λ b j sp.
     let e = going-end (l .inv .5 b j sp) (omega arith) in
     moved-end (a .d) _ _ (l .out) _ (l .inv .2) (kept .ready) (e .0 ∙ ap (λ ts. ok (record { tables = ts; branch = branchIn (l .out) })) (sym (kept .tables)), e .1) (c .before .before .put-pass .ensures)
@@ -616,6 +645,7 @@ pub +analyze-block+analyze-if-spec : {M : Type 1} → statement M
     (analyze-block-add-next t)
     (analyze-block-loop-holds t)
     (analyze-block-add-k t)
+    (analyze-block-element-copy-out-analyze-statement t)
     (analyze-block-analyze-statement-requires t)
     (analyze-block-enum-known-step t)
     (analyze-block-loop-less t)
@@ -630,14 +660,16 @@ pub +analyze-block+analyze-if-spec : {M : Type 1} → statement M
     (analyze-block-enum-known-answer t)
     (analyze-block-refuse-requires-2 t)
     (analyze-block-returns-2 t)
-    (analyze-block-enum-known-answer-2 t)
-    (analyze-block-cast-next t)
+    (analyze-block-enum-told t)
+    (analyze-block-row-after-requires t)
     (analyze-block-loop-less-2 t)
     (analyze-block-loop-again-2 t)
     (analyze-block-enum-known-step-4 t)
     (analyze-block-analyze-if-requires t)
-    (analyze-block-element-copy-out-if1 t)
     (analyze-block-returns-3 t)
+    (analyze-block-analyze-if-requires-2 t)
+    (analyze-block-element-copy-out-if2 t)
+    (analyze-block-returns-4 t)
     (analyze-block-element-copy-out-path-in-use t)
     (analyze-block-cast-path-in-use t)
     (analyze-block-mul-path-in-use t)
@@ -655,8 +687,8 @@ pub +analyze-block+analyze-if-spec : {M : Type 1} → statement M
     (analyze-block-cast-taken t)
     (analyze-block-mul-taken t)
     (analyze-block-element-write-taken t)
-    (analyze-block-returns-4 t)
-    (analyze-block-returns-5 t))
+    (analyze-block-returns-5 t)
+    (analyze-block-returns-6 t))
     λ t. analyze-if-lts.spec (analyze-if-calls t)
     (analyze-if-at t)
     analyze-if.Post

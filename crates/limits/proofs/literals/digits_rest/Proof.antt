@@ -1,6 +1,6 @@
 use Prim.Native.Nat.{_+_, _-_, _≤_}
 use native.Mathlib.Omega.{arith}
-use mathlib.Core.Path.{_≡_, refl, sym, _∙_}
+use mathlib.Core.Path.{_≡_, refl, _∙_}
 use borrow.Author.Needs.{needs}
 use borrow.Author.Tests.{not-true, not-false}
 use lib.ListN.{length, take, drop}
@@ -19,26 +19,23 @@ abbrev μ-loop : tie.MeasureT-loop
 loop-holds : tie.Need-loop-holds Inv-loop μ-loop
 loop-holds c = (omega arith, refl)
 
-shared-slice-read-byte-of : tie.Need-shared-slice-read-byte-of Inv-loop μ-loop
-shared-slice-read-byte-of c = omega arith
+shared-slice-read-is-spelled-digit : tie.Need-shared-slice-read-is-spelled-digit Inv-loop μ-loop
+shared-slice-read-is-spelled-digit c = omega arith
 
-add-byte-of : tie.Need-add-byte-of Inv-loop μ-loop
-add-byte-of c = omega arith
+add-is-spelled-digit : tie.Need-add-is-spelled-digit Inv-loop μ-loop
+add-is-spelled-digit c = omega arith
 
-shared-slice-read-byte-of-2 : tie.Need-shared-slice-read-byte-of-2 Inv-loop μ-loop
-shared-slice-read-byte-of-2 c = omega arith
+shared-slice-read-is-spelled-digit-2 : tie.Need-shared-slice-read-is-spelled-digit-2 Inv-loop μ-loop
+shared-slice-read-is-spelled-digit-2 c = omega arith
 
-byte-of-requires : tie.Need-byte-of-requires Inv-loop μ-loop
-byte-of-requires c κs = search needs
-
-is-digit-requires : tie.Need-is-digit-requires Inv-loop μ-loop
-is-digit-requires c κs = search needs
+is-spelled-digit-requires : tie.Need-is-spelled-digit-requires Inv-loop μ-loop
+is-spelled-digit-requires c κs = search needs
 
 returns : tie.Need-returns Inv-loop μ-loop
 returns c =
-    let l = c .before .before .before .before .before .before .loop in
-    let s = c .before .before .before .before .before .before .before .before .args .listing .now in
-    digits-none s (l .i) (l .left) (l .inv .0) (c .before .before .before .before .before .loop-test .taken) (c .before .before .byte-of .ensures) (sym (c .before .is-digit .ensures) ∙ not-true _ (c .if1 .taken)) ∙ l .inv .1
+    let l = c .before .before .before .before .before .loop in
+    let s = c .before .before .before .before .before .before .before .args .listing .now in
+    digits-none s (l .i) (l .left) (l .inv .0) (c .before .before .before .before .loop-test .taken) (c .before .is-spelled-digit .ensures) (not-true _ (c .if1 .taken)) ∙ l .inv .1
 
 add-i : tie.Need-add-i Inv-loop μ-loop
 add-i c = omega arith
@@ -51,9 +48,9 @@ loop-less c = omega arith
 
 loop-again : tie.Need-loop-again Inv-loop μ-loop
 loop-again c =
-    let l = c .before .before .before .before .before .before .loop in
-    let s = c .before .before .before .before .before .before .before .before .args .listing .now in
-    (omega arith, digits-more s (l .i) (l .left) (l .inv .0) (c .before .before .before .before .before .loop-test .taken) (c .before .before .byte-of .ensures) (sym (c .before .is-digit .ensures) ∙ not-false _ (c .if1 .left)) ∙ l .inv .1)
+    let l = c .before .before .before .before .before .loop in
+    let s = c .before .before .before .before .before .before .before .args .listing .now in
+    (omega arith, digits-more s (l .i) (l .left) (l .inv .0) (c .before .before .before .before .loop-test .taken) (c .before .is-spelled-digit .ensures) (not-false _ (c .if1 .left)) ∙ l .inv .1)
 
 returns-2 : tie.Need-returns-2 Inv-loop μ-loop
 returns-2 c = let l = c .before .loop in digits-end (c .before .before .before .args .listing .now) (l .i) (l .left) (l .inv .0) (omega (arith, c .loop-test .left)) ∙ l .inv .1
@@ -65,11 +62,10 @@ digits-rest-spec =
     Inv-loop
     μ-loop
     loop-holds
-    shared-slice-read-byte-of
-    add-byte-of
-    shared-slice-read-byte-of-2
-    byte-of-requires
-    is-digit-requires
+    shared-slice-read-is-spelled-digit
+    add-is-spelled-digit
+    shared-slice-read-is-spelled-digit-2
+    is-spelled-digit-requires
     returns
     add-i
     sub-left
