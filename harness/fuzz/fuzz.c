@@ -1,5 +1,5 @@
-// Fuzzing of the C exports with libFuzzer. What must hold of every input is in `examine`; the library is not instrumented,
-// so `follow`, a small reader of listings in C, is what guides the fuzzer towards listings that are read.
+// Fuzzing of the C exports with libFuzzer. What must hold of every input is in `examine`. The library has libFuzzer's counters
+// on its own branches (harness/fuzz/library), so they guide the fuzzer.
 #include "../../crates/bithoven_examiner/include/bithoven_examiner.h"
 #include <stdint.h>
 #include <stdio.h>
@@ -63,80 +63,11 @@ static void examine(const uint8_t *in, size_t n) {
     must(report(in, n, again, size - 1, short_of) == 0 && short_of[0] == 6 && untouched(again, 0, all), "6, and nothing written");
 }
 
-// ---- the guide
-
-static volatile uint32_t seen;
-
-static const uint8_t *field(const uint8_t *p, const uint8_t *end, uint32_t *value) {
-    uint32_t v = 0;
-    while (p < end && *p != ',' && *p != 10) {
-        v = v * 10 + (uint32_t)(*p - '0');
-        p++;
-    }
-    *value = v;
-    return p < end && *p == ',' ? p + 1 : p;
-}
-
-// How many parts the line announces; its kind is kept for the fuzzer's count of branches.
-static uint32_t parts(const uint8_t *p, const uint8_t *end) {
-    uint32_t f[8] = {0};
-    const uint8_t letter = *p;
-    p = p + 1 < end && p[1] == ',' ? p + 2 : p + 1;
-    for (int i = 0; i < 8 && p < end && *p != 10; i++)
-        p = field(p, end, &f[i]);
-    switch (letter) {
-    case 'T': seen = 1; return f[1] <= 32 ? f[1] + 1 : 0;
-    case 'D': seen = 2; return f[0] <= 32 ? f[0] : 0;
-    case 'P': seen = 3; return 0;
-    case 'B': seen = 4; return f[0] <= 1024 ? f[0] : 0;
-    case 'I': seen = 5; return f[4] == 1 ? 3 : 2;
-    case 'L': seen = 6 + (f[4] & 1); return 0;
-    case 'V': seen = 8; return 1;
-    case 'E': seen = 9; return 1;
-    case 'v': seen = 10; return 0;
-    case 'n': seen = 11; return 0;
-    case 'b': seen = 12; return 0;
-    case 's': seen = 13; return 0;
-    case 'l': seen = 14; return 2;
-    case 'c': seen = 15; return 2;
-    case 'm': seen = 16; return 2;
-    case 'u': seen = 17; return 1;
-    case 'h': seen = 18; return 1;
-    case 'z': seen = 19; return 1;
-    case 'g': seen = 20; return 1;
-    case 'S': seen = 21; return 2;
-    case 'M': seen = 22; return f[5] <= 64 ? f[5] : 0;
-    default: seen = 23; return 0;
-    }
-}
-
-// Follows the lines by what is due; a branch for each count of lines that come to something.
-static void follow(const uint8_t *in, size_t n) {
-    const uint8_t *p = in, *end = in + n;
-    uint32_t due = 1, lines = 0;
-    while (p < end && due > 0 && lines < 1024) {
-        due = due - 1 + parts(p, end);
-        lines++;
-        while (p < end && *p != 10)
-            p++;
-        p++;
-    }
-    if (lines > 4) seen = 30;
-    if (lines > 8) seen = 31;
-    if (lines > 16) seen = 32;
-    if (lines > 64) seen = 33;
-    if (due == 0) seen = 34;
-    if (due == 0 && p >= end) seen = 35;
-    if (due == 0 && p >= end && lines > 12) seen = 36;
-    if (due == 0 && p >= end && lines > 24) seen = 37;
-}
-
 int LLVMFuzzerTestOneInput(const uint8_t *data, size_t size) {
     // an exact copy, so that a read past the end is one past the end of an allocation
     uint8_t *listing = malloc(size ? size : 1);
     if (size)
         memcpy(listing, data, size);
-    follow(listing, size);
     examine(listing, size);
     must(size == 0 || memcmp(listing, data, size) == 0, "the listing is untouched");
     free(listing);

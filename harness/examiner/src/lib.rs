@@ -1,6 +1,9 @@
 //! Check and Report of the examiner, through its two C exports (crates/bithoven_examiner/include/bithoven_examiner.h).
 //!
-//! A call takes up to 0.9 MB of stack: make it on a thread that has more.
+//! `safe` is a wrapper for others to copy. What stands here is for the harness, which wants the words as they were written: a
+//! call takes up to 1.1 MB of stack, so make it on a thread that has more.
+
+pub mod safe;
 
 extern "C" {
     fn bithoven_check(listing: *const u8, length: usize, answer: *mut u32) -> u32;

@@ -9,9 +9,14 @@ use crate::oracle::STACK;
 use counts::Counted;
 use inputs::Input;
 use sides::{Bench, SIDES};
+use std::io::Write;
 
-/// `bench`, or one side on one listing, for tools that watch the process: `bench --one NAME --side SIDE [--runs NUMBER]`.
+/// `bench`; or one side on one listing, for tools that watch the process: `bench --one NAME --side SIDE [--runs NUMBER]`; or a
+/// listing itself, on standard output: `bench --show NAME`.
 pub fn run(arguments: &[String]) -> Result<(), String> {
+    if let Some(name) = crate::maybe(arguments, "--show") {
+        return show(&name);
+    }
     let one = crate::maybe(arguments, "--one");
     let side = crate::maybe(arguments, "--side");
     let runs = crate::maybe(arguments, "--runs").map_or(1, |_| crate::number(arguments, "--runs") as usize);
@@ -23,10 +28,20 @@ pub fn run(arguments: &[String]) -> Result<(), String> {
     thread.join().unwrap_or_else(|_| Err("the benchmark panicked".to_string()))
 }
 
+/// The listing of this name.
+fn input(name: &str) -> Result<Input, String> {
+    let name = inputs::NAMES.iter().find(|one| **one == name);
+    name.map(|name| inputs::named(name)).ok_or(format!("no such listing; there are: {}", inputs::NAMES.join(", ")))
+}
+
+/// Writes a listing to standard output.
+fn show(name: &str) -> Result<(), String> {
+    std::io::stdout().write_all(&input(name)?.listing).map_err(|e| e.to_string())
+}
+
 /// So many runs of one side, and then one that callgrind counts.
 fn counted(name: &str, side: &str, runs: usize) -> Result<(), String> {
-    let name = inputs::NAMES.iter().find(|one| **one == name).ok_or("no such listing")?;
-    let input = inputs::named(name);
+    let input = input(name)?;
     let side = *SIDES.iter().find(|one| one.name() == side).ok_or("no such side")?;
     let mut bench = Bench::new(&input.listing);
     bench.batch(side, runs);
