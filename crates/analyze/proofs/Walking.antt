@@ -153,14 +153,14 @@ module _ (s t : List ℕ) (d : Declared) (n : ℕ) (x : Statement) (i j : ℕ) (
   told-wait (Err y) h k said f g = subst (Told s t d n x i j) (sym (g y refl)) (λ rows taken p u. ap (λ y. walkStatement y (d .target) (tablesWith s t d rows taken n p) n) h ∙ rw (sym said))
 
   -- a verify or a return: what is decided of its expression
-  module _ {e : Expression} (sp : SpellsExpression (lineIn t) s (suc i) e j) (r : Step) (D : Decided s t d n (λ ts. examined (d .target) l e ts n) l j r) where
+  module _ {e : Expression} (sp : SpellsExpression (lineIn t) s (suc i) e j) (r : Step) (D : Decided s t d n l e j r) where
     told-as : ((ts : List Table) → walkStatement x (d .target) ts n ≡ examined (d .target) l e ts n) → Told s t d n x i j r
     told-as same = go r D
       where
-        go : (r : Step) → Decided s t d n (λ ts. examined (d .target) l e ts n) l j r → Told s t d n x i j r
+        go : (r : Step) → Decided s t d n l e j r → Told s t d n x i j r
         go (Step.Pass m) D = (D .0, λ rows taken p u. same _ ∙ D .1 rows taken p u)
-        go (Step.Fault y) D = λ rows taken p u. same _ ∙ D rows taken p u
-        go (Step.Examine k) D = (e, sp, λ rows taken p u. same _ ∙ ap (λ k. examined (d .target) k e (tablesWith s t d rows taken n p) n) (sym D))
+        go (Step.Fault y) D = λ rows taken p u. same _ ∙ D .0 rows taken p u
+        go (Step.Examine k) D = (e, sp, λ rows taken p u. same _ ∙ ap (λ k. examined (d .target) k e (tablesWith s t d rows taken n p) n) (sym (D .0)), D .1)
         go (Step.If k h) D = absurd D
 
     pub told-verify : x ≡ VerifyStatement l e → Told s t d n x i j r

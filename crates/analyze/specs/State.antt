@@ -27,6 +27,7 @@ use Rattle.names.specs.Items.{ItemsAt, itemsDown}
 use Rattle.usage.specs.declared.NamePlace.{NamePlace}
 use Rattle.usage.specs.declared.Path.{Path}
 use Rattle.usage.specs.declared.Used.{Used}
+use Rattle.usage.specs.Names.{hasNames}
 use Rattle.usage.specs.Path.{tableOf, noPlace, WellFormed, Placed}
 use Rattle.analyze.specs.declared.Declared.{Declared}
 use Rattle.analyze.specs.declared.walk.Step.{Step}
@@ -111,6 +112,10 @@ judged g e ps = both (truth e g ps) (security e)
 unfoldable pub examined : Target → Location → Expression → List Table → ℕ → Result Walked
 examined g l e ts n = examineAt g l e ts n >>= λ t. ok (record { tables = set ts n t; branch = n })
 
+-- the items of path n, if it is declared, stand where its declaration says
+abbrev pub ItemsOf : List ℕ → List ℕ → Declared → ℕ → Type 0
+ItemsOf s t d n = n < d .count → ItemsAt s t (getD (d .counts) n 0) (getD (d .firsts) n 0)
+
 -- a path n that is declared can be used
 abbrev pub InUse : List ℕ → List ℕ → Declared → ℕ → Path → Type 0
 InUse s t d n p = n < d .count → PathReady s t (getD (d .firsts) n 0) (getD (d .counts) n 0) p
@@ -133,18 +138,18 @@ pub record Tried (s t : List ℕ) (d : Declared) (n : ℕ) (p : Path) (w : List 
 abbrev pub On : List ℕ → List ℕ → Declared → ℕ → (List Table → Result Walked) → (List Table → Result Walked) → Type 0
 On s t d n f w = (rows : List (List NamePlace)) (taken : List ℕ) (p : Path) → InUse s t d n p → f (tablesWith s t d rows taken n p) ≡ w (tablesWith s t d rows taken n p)
 
--- what a step says on path n of an expression at l that ends before row j, its rule being f: it passes, is refused, or is to be examined
-abbrev pub Decided : List ℕ → List ℕ → Declared → ℕ → (List Table → Result Walked) → Location → ℕ → Step → Type 0
-Decided s t d n f l j (Step.Pass m) = (m ≡ j) × On s t d n f (λ ts. ok (record { tables = ts; branch = n }))
-Decided s t d n f l j (Step.Fault y) = On s t d n f (λ ts. err y)
-Decided s t d n f l j (Step.Examine k) = k ≡ l
-Decided s t d n f l j (Step.If k h) = ⊥
+-- what a step says on path n of the expression e at l, which ends before row j: it passes, is refused, or, exactly if it has names, is to be examined
+abbrev pub Decided : List ℕ → List ℕ → Declared → ℕ → Location → Expression → ℕ → Step → Type 0
+Decided s t d n l e j (Step.Pass m) = (m ≡ j) × On s t d n (λ ts. examined (d .target) l e ts n) (λ ts. ok (record { tables = ts; branch = n })) × (hasNames e ≡ false)
+Decided s t d n l e j (Step.Fault y) = On s t d n (λ ts. examined (d .target) l e ts n) (λ ts. err y) × (hasNames e ≡ false)
+Decided s t d n l e j (Step.Examine k) = (k ≡ l) × (hasNames e ≡ true)
+Decided s t d n l e j (Step.If k h) = ⊥
 
--- what a step says on path n of the statement x, from row i up to j: it passes, is refused, examines an expression, or is an if
+-- what a step says on path n of the statement x, from row i up to j: it passes, is refused, examines an expression that has names, or is an if
 abbrev pub Told : List ℕ → List ℕ → Declared → ℕ → Statement → ℕ → ℕ → Step → Type 0
 Told s t d n x i j (Step.Pass m) = (m ≡ j) × On s t d n (λ ts. walkStatement x (d .target) ts n) (λ ts. ok (record { tables = ts; branch = n }))
 Told s t d n x i j (Step.Fault y) = On s t d n (λ ts. walkStatement x (d .target) ts n) (λ ts. err y)
-Told s t d n x i j (Step.Examine l) = (e : Expression) × SpellsExpression (lineIn t) s (suc i) e j × On s t d n (λ ts. walkStatement x (d .target) ts n) (λ ts. examined (d .target) l e ts n)
+Told s t d n x i j (Step.Examine l) = (e : Expression) × SpellsExpression (lineIn t) s (suc i) e j × On s t d n (λ ts. walkStatement x (d .target) ts n) (λ ts. examined (d .target) l e ts n) × (hasNames e ≡ true)
 Told s t d n x i j (Step.If l h) = lineIn t i ≡ Line.Statement (StatementLine.IfStatement l h)
 
 -- the row after what was passed, as a number of 32 bits; 0 after a fault

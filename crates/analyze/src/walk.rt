@@ -13,12 +13,11 @@ ghost use Rattle.rows.specs.Rows.{lineIn};
 ghost use Rattle.reader.specs.Spells.{SpellsExpression, SpellsStatement, SpellsBlock};
 ghost use Rattle.nodes.specs.declared.Answer.{Answer};
 ghost use Rattle.nodes.specs.Stands.{ExpressionAt, StatementAt, BlockAt};
-ghost use Rattle.names.specs.Items.{ItemsAt};
 ghost use Rattle.rules.specs.Walk.{cross as crossOf, walkStatement, walk};
 ghost use Rattle.usage.specs.Names.{hasNames};
 ghost use Rattle.usage.specs.Path.{tableOf, WellFormed, noPlace};
 ghost use Rattle.analyze.specs.declared.walk.Step.{Step};
-ghost use Rattle.analyze.specs.State.{pathAt, tablesWith, noneTaken, noRows, refusal, OnlyFault, Ready, InUse, Tried, Decided, Told, Moved, branchIn, examined, rowAfter, passed, turned};
+ghost use Rattle.analyze.specs.State.{pathAt, tablesWith, noneTaken, noRows, refusal, OnlyFault, Ready, ItemsOf, InUse, Tried, Decided, Told, Moved, branchIn, examined, rowAfter, passed, turned};
 use crate::Declared;
 use crate::examine::examine;
 use crate::examine::judge;
@@ -231,8 +230,8 @@ fn wait_step(c: Checked, next: u32) -> Step
 
 // An expression without names: truth and check_security decide, and the path stays as it is.
 fn judge_at(listing: &[u8], table: &[u32], d: Declared, loc: Location, branch: u32, i: u32) -> Step
-    requires { ⌜ ExpressionAt (now listing) (now table) i × (branch < d .count → ItemsAt (now listing) (now table) (getD (d .counts) branch 0) (getD (d .firsts) branch 0)) × (d .count ≤ 32) ⌝ }
-    ensures { λ r. ⌜ ((e : Expression) (j : ℕ) → SpellsExpression (lineIn (now (table .entry))) (now (listing .entry)) i e j → hasNames e ≡ false → Decided (now (listing .entry)) (now (table .entry)) d branch (λ ts. examined (d .target) loc e ts branch) loc j r) ⌝ }
+    requires { ⌜ ExpressionAt (now listing) (now table) i × ItemsOf (now listing) (now table) d branch × (d .count ≤ 32) ⌝ }
+    ensures { λ r. ⌜ ((e : Expression) (j : ℕ) → SpellsExpression (lineIn (now (table .entry))) (now (listing .entry)) i e j → hasNames e ≡ false → Decided (now (listing .entry)) (now (table .entry)) d branch loc e j r) ⌝ }
 {
     if d.count <= branch {
         return Step::Fault(CompileError {
@@ -256,8 +255,8 @@ fn expression_step(
     branch: u32,
     i: u32,
 ) -> Step
-    requires { ⌜ ExpressionAt (now listing) (now table) i × (branch < d .count → ItemsAt (now listing) (now table) (getD (d .counts) branch 0) (getD (d .firsts) branch 0)) × (d .count ≤ 32) ⌝ }
-    ensures { λ r. ⌜ ((e : Expression) (j : ℕ) → SpellsExpression (lineIn (now (table .entry))) (now (listing .entry)) i e j → Decided (now (listing .entry)) (now (table .entry)) d branch (λ ts. examined (d .target) loc e ts branch) loc j r) ⌝ }
+    requires { ⌜ ExpressionAt (now listing) (now table) i × ItemsOf (now listing) (now table) d branch × (d .count ≤ 32) ⌝ }
+    ensures { λ r. ⌜ ((e : Expression) (j : ℕ) → SpellsExpression (lineIn (now (table .entry))) (now (listing .entry)) i e j → Decided (now (listing .entry)) (now (table .entry)) d branch loc e j r) ⌝ }
 {
     if has_names(table, i as usize) {
         return Step::Examine(loc);
@@ -267,7 +266,7 @@ fn expression_step(
 
 // The statement at row i, on the path `branch`: what does not touch the path is checked here, the rest is left to the walk.
 fn analyze_statement(listing: &[u8], table: &[u32], d: Declared, branch: u32, i: u32) -> Step
-    requires { ⌜ StatementAt (now listing) (now table) i × (branch < d .count → ItemsAt (now listing) (now table) (getD (d .counts) branch 0) (getD (d .firsts) branch 0)) × (d .count ≤ 32) ⌝ }
+    requires { ⌜ StatementAt (now listing) (now table) i × ItemsOf (now listing) (now table) d branch × (d .count ≤ 32) ⌝ }
     ensures { λ r. ⌜ ((x : Statement) (j : ℕ) → SpellsStatement (lineIn (now (table .entry))) (now (listing .entry)) i x j → Told (now (listing .entry)) (now (table .entry)) d branch x i j r) ⌝ }
 {
     let line = statement_at(table, i as usize);

@@ -14,7 +14,7 @@ use Rattle.listing.specs.declared.StatementLine.{StatementLine}
 use Rattle.rows.specs.Rows.{lineIn}
 use Rattle.reader.specs.Spells.{SpellsBlock}
 use Rattle.reader.proofs.Agree.{expression-on, statement-on, block-on}
-use Rattle.nodes.specs.Stands.{BlockAt}
+use Rattle.nodes.specs.Stands.{StatementAt, BlockAt}
 use Rattle.nodes.proofs.Laws.{below, statement-is, block-is, statement-holds, block-holds}
 use Rattle.rules.specs.Result.{ok}
 use Rattle.rules.specs.Walk.{walkStatement, walk}
@@ -269,16 +269,28 @@ analyze-block-loop-again-2 t c =
 analyze-block-enum-known-step-4 : (t : ℕ) → analyze-block-lts.Need-enum-known-step-4 (analyze-block-calls t) (analyze-block-at t) analyze-block.Post analyze-block-Inv-loop analyze-block-μ-loop
 analyze-block-enum-known-step-4 t c = search needs
 
-analyze-block-analyze-if-requires : (t : ℕ) → analyze-block-lts.Need-analyze-if-requires (analyze-block-calls t) (analyze-block-at t) analyze-block.Post analyze-block-Inv-loop analyze-block-μ-loop
-analyze-block-analyze-if-requires t c κs =
-    let a = c .before .before .before .before .before .before .before .before .before .before .before .before .before .args in
-    let st = c .before .before .before .before .before .before .before .before .before .before .before .before .before .pre .1 .0 in
-    let l = c .before .before .before .before .before .before .before .before .before .loop in
-    let more = c .before .before .before .before .before .before .before .before .loop-test .taken in
+-- an if of the block: it stands below the block, and its line
+analyze-block-if-here :
+    (t : ℕ) (c : analyze-block-lts.After-step4 (analyze-block-calls t) (analyze-block-at t) analyze-block.Post analyze-block-Inv-loop analyze-block-μ-loop) →
+    let a = c .before .before .before .before .before .before .before .before .before .args in
+    let l = c .before .before .before .before .before .loop in
+    StatementAt (a .listing .now) (a .table .now) (l .next) × (lineIn (a .table .now) (l .next) ≡ Line.Statement (StatementLine.IfStatement (c .step4 .given .0 .0) (c .step4 .given .0 .1 .0)))
+analyze-block-if-here t c =
+    let a = c .before .before .before .before .before .before .before .before .before .args in
+    let st = c .before .before .before .before .before .before .before .before .before .pre .1 .0 in
+    let l = c .before .before .before .before .before .loop in
+    let more = c .before .before .before .before .loop-test .taken in
     let h = l .inv .5 (st .tree) (st .next) (st .spells) in
     let f = first h more in
-    let room = block-holds st .room in
-    (omega (arith, c .before .before .before .before .before .before .before .before .before .before .before .before .before .pre .0), (statement-below st (f .spells) (head-within h more), l .inv .1, l .inv .2, l .inv .4, subst (Told (a .listing .now) (a .table .now) (a .d) (branchIn (l .out)) (f .head) (l .next) (f .mid)) (c .before .before .before .before .step4 .given .1) (c .before .before .before .before .before .before .analyze-statement .ensures (f .head) (f .mid) (f .spells))))
+    (statement-below st (f .spells) (head-within h more), subst (Told (a .listing .now) (a .table .now) (a .d) (branchIn (l .out)) (f .head) (l .next) (f .mid)) (c .step4 .given .1) (c .before .before .analyze-statement .ensures (f .head) (f .mid) (f .spells)))
+
+analyze-block-analyze-if-requires : (t : ℕ) → analyze-block-lts.Need-analyze-if-requires (analyze-block-calls t) (analyze-block-at t) analyze-block.Post analyze-block-Inv-loop analyze-block-μ-loop
+analyze-block-analyze-if-requires t c κs =
+    let pre = c .before .before .before .before .before .before .before .before .before .before .before .before .before .pre in
+    let inv = c .before .before .before .before .before .before .before .before .before .loop .inv in
+    let here = analyze-block-if-here t (c .before .before .before .before) in
+    let room = block-holds (pre .1 .0) .room in
+    (omega (arith, pre .0), (here .0, inv .1, inv .2, inv .4, here .1))
 
 analyze-block-returns-3 : (t : ℕ) → analyze-block-lts.Need-returns-3 (analyze-block-calls t) (analyze-block-at t) analyze-block.Post analyze-block-Inv-loop analyze-block-μ-loop
 analyze-block-returns-3 t c =
@@ -292,14 +304,11 @@ analyze-block-returns-3 t c =
 
 analyze-block-analyze-if-requires-2 : (t : ℕ) → analyze-block-lts.Need-analyze-if-requires-2 (analyze-block-calls t) (analyze-block-at t) analyze-block.Post analyze-block-Inv-loop analyze-block-μ-loop
 analyze-block-analyze-if-requires-2 t c κs =
-    let a = c .before .before .before .before .before .before .before .before .before .before .before .before .before .args in
-    let st = c .before .before .before .before .before .before .before .before .before .before .before .before .before .pre .1 .0 in
-    let l = c .before .before .before .before .before .before .before .before .before .loop in
-    let more = c .before .before .before .before .before .before .before .before .loop-test .taken in
-    let h = l .inv .5 (st .tree) (st .next) (st .spells) in
-    let f = first h more in
-    let room = block-holds st .room in
-    (omega (arith, c .before .before .before .before .before .before .before .before .before .before .before .before .before .pre .0), (statement-below st (f .spells) (head-within h more), l .inv .1, l .inv .2, l .inv .4, subst (Told (a .listing .now) (a .table .now) (a .d) (branchIn (l .out)) (f .head) (l .next) (f .mid)) (c .before .before .before .before .step4 .given .1) (c .before .before .before .before .before .before .analyze-statement .ensures (f .head) (f .mid) (f .spells))))
+    let pre = c .before .before .before .before .before .before .before .before .before .before .before .before .before .pre in
+    let inv = c .before .before .before .before .before .before .before .before .before .loop .inv in
+    let here = analyze-block-if-here t (c .before .before .before .before) in
+    let room = block-holds (pre .1 .0) .room in
+    (omega (arith, pre .0), (here .0, inv .1, inv .2, inv .4, here .1))
 
 analyze-block-element-copy-out-if2 : (t : ℕ) → analyze-block-lts.Need-element-copy-out-if2 (analyze-block-calls t) (analyze-block-at t) analyze-block.Post analyze-block-Inv-loop analyze-block-μ-loop
 analyze-block-element-copy-out-if2 t c = search needs

@@ -1,6 +1,5 @@
-use mathlib.Core.Path.{sym, _∙_}
+use mathlib.Core.Path.{refl, sym, _∙_}
 use borrow.Author.Needs.{needs}
-use borrow.Author.Tests.{not-true}
 use Rattle.analyze.proofs.walk.expression_step.Statement.{statement}
 use Rattle.analyze.proofs.walk.expression_step.Tie as tie
 
@@ -8,7 +7,7 @@ has-names-requires : tie.Need-has-names-requires
 has-names-requires c κs = search needs
 
 returns : tie.Need-returns
-returns c = search needs
+returns c = λ e j sp. (refl, sym (c .before .has-names .ensures _ e j sp) ∙ c .if1 .taken)
 
 judge-at-requires : tie.Need-judge-at-requires
 judge-at-requires c κs = search needs

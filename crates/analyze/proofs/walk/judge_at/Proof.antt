@@ -10,7 +10,7 @@ use Rattle.analyze.proofs.walk.judge_at.Tie as tie
 returns : tie.Need-returns
 returns c =
     let a = c .before .before .before .before .args in
-    λ e j sp no. examined-past (a .listing .now) (a .table .now) (a .d) (a .branch) (a .loc) e (c .if1 .taken)
+    λ e j sp no. (examined-past (a .listing .now) (a .table .now) (a .d) (a .branch) (a .loc) e (c .if1 .taken), no)
 
 judge-requires : tie.Need-judge-requires
 judge-requires c κs =
@@ -34,12 +34,12 @@ returns-2 c =
     let at₀ = walked-pass _ (st .next) (sym (c .before .before .before .judge .ensures (st .tree) (st .next) (st .spells)) ∙ is) .1 in
     λ e j sp no.
     let h = c .before .before .before .judge .ensures e j sp in
-    (omega (arith, walked-pass _ j (sym h ∙ is) .1, at₀, st .within, st .rows .few), judged-passes (a .listing .now) (a .table .now) (a .d) (a .branch) (a .loc) e j no (c .before .before .before .before .if1 .left) _ h is)
+    (omega (arith, walked-pass _ j (sym h ∙ is) .1, at₀, st .within, st .rows .few), judged-passes (a .listing .now) (a .table .now) (a .d) (a .branch) (a .loc) e j no (c .before .before .before .before .if1 .left) _ h is, no)
 
 returns-3 : tie.Need-returns-3
 returns-3 c =
     let a = c .before .before .before .before .before .before .before .before .args in
-    λ e j sp no. judged-stops (a .listing .now) (a .table .now) (a .d) (a .branch) (a .loc) e j no (c .before .before .before .before .if1 .left) _ (c .before .before .before .judge .ensures e j sp) (c .before .answer2 .given .1)
+    λ e j sp no. (judged-stops (a .listing .now) (a .table .now) (a .d) (a .branch) (a .loc) e j no (c .before .before .before .before .if1 .left) _ (c .before .before .before .judge .ensures e j sp) (c .before .answer2 .given .1), no)
 
 pub judge-at-spec : {M : Type 1} → statement M
 judge-at-spec =
