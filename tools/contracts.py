@@ -8,9 +8,9 @@ writes crates/contracts_check/data/listings, and crates/contracts_check/stdout, 
 Both follow the samples in the order of their names. A record of data/listings is the length in five digits, byte 10, the
 bytes, byte 10; the name of a sample, as in `wait/segwit_vault.listing`, is a record before its listing.
 
-The reports come from no examiner. A sample outside contracts/refused is to be accepted: its paths are walked here, and the
-script stops if a path does not take its items from the top down, all of them. A sample in contracts/refused has its report in
-contracts/refused/answers.txt, a line `FILE REPORT` for each.
+The reports and names come from no examiner. A sample outside contracts/refused is to be accepted: its paths are walked here,
+and the script stops if a path does not take its items from the top down, all of them. A sample in contracts/refused has its
+report in contracts/refused/answers.txt, a line `FILE REPORT` for each, and no names.
 """
 import os
 import sys
@@ -75,6 +75,7 @@ def block_paths(lines, i, met):
 
 
 def accepted_report(listing):
+    """the report, and the names of the items as Name gives them"""
     lines = [line.split(",") for line in listing.decode("ascii").splitlines()]
     declared, i = [], 1
     for _ in range(int(lines[0][2])):
@@ -91,6 +92,8 @@ def accepted_report(listing):
         report.append("D,%d,%d" % (path, len(items)))
         for position, ((name, kind), (_, line)) in enumerate(zip(reversed(items), taken)):
             report.append("P,%d,%s,1,%d,%s" % (position, kind, line, name))
+    for path, items in enumerate(declared):
+        report += ["N,%d,%d,%s" % (path, position, name) for position, (name, _) in enumerate(reversed(items))]
     return "".join(line + "\n" for line in report)
 
 

@@ -1,4 +1,4 @@
-// Check and Report, through the C exports, on each file named. Run under valgrind by harness/fuzz/memcheck.
+// Check, Report and Name, through the C exports, on each file named. Run under valgrind by harness/fuzz/memcheck.
 #include "../../crates/bithoven_examiner/include/bithoven_examiner.h"
 #include <stdio.h>
 #include <stdlib.h>
@@ -38,6 +38,9 @@ int main(int count, char **names) {
                 puts("a zero byte in a text");
         if (bithoven_report(listing, size, text, n - 1, answer) != 0)
             puts("a text in an output that is too short");
+        uint32_t place[2];
+        if (bithoven_name(listing, size, 0, 0, place) == 0 && place[1] != 0 && listing[place[0] + place[1]] != 10)
+            puts("a name that does not end its line");
         free(listing);
         free(text);
     }

@@ -47,6 +47,18 @@ static void judge_text(const uint8_t *text, size_t n, const uint32_t answer[5]) 
     must((size_t)m == n && memcmp(text, due, n) == 0, "a refusal's text is its answer");
 }
 
+// Name on one item: Check's number; if there is a name, a part of the listing on a line that ends with it, else two zeros.
+static void judge_name(const uint8_t *in, size_t n, uint32_t checked, uint32_t path, uint32_t position) {
+    uint32_t place[2] = {0xffffffff, 0xffffffff};
+    must(bithoven_name(in, n, path, position, place) == checked, "Name gives Check's number");
+    if (checked != 0 || place[1] == 0) {
+        must(place[0] == 0 && place[1] == 0, "no name has no place");
+        return;
+    }
+    size_t end = (size_t)place[0] + place[1];
+    must(place[0] > 0 && end < n && in[place[0] - 1] == ',' && in[end] == 10, "a name is the last field of a line");
+}
+
 static void examine(const uint8_t *in, size_t n) {
     static uint8_t out[ROOM], again[ROOM];
     uint32_t checked[5], reported[5], short_of[5];
@@ -61,6 +73,8 @@ static void examine(const uint8_t *in, size_t n) {
     judge_text(out, size, reported);
     must(report(in, n, again, size, reported) == size && memcmp(out, again, all) == 0, "an exact output is enough");
     must(report(in, n, again, size - 1, short_of) == 0 && short_of[0] == 6 && untouched(again, 0, all), "6, and nothing written");
+    judge_name(in, n, r, 0, 0);
+    judge_name(in, n, r, n % 3, n % 7);
 }
 
 int LLVMFuzzerTestOneInput(const uint8_t *data, size_t size) {

@@ -16,14 +16,16 @@ use Rattle.rules.specs.Flow.{flow}
 use Rattle.rules.specs.Unused.{unusedAll}
 use Rattle.rules.specs.Walk.{Walked as Walk, walk}
 use Rattle.rules.specs.Analyze.{counted, analyze}
-use Rattle.usage.specs.declared.NamePlace.{NamePlace}
-use Rattle.usage.specs.declared.Path.{Path}
-use Rattle.analyze.specs.declared.Declared.{Declared}
-use Rattle.analyze.specs.Items.{ContractAt, DeclaredAs, Given}
-use Rattle.analyze.specs.State.{pathAt, tablesOf, tablesWith, Ready, InUse, faultIn, branchIn, OnlyFault, Moved, started, analyzed, finished, accepted, answered, Analyzed}
-use Rattle.analyze.proofs.State.{outcome-fault, fault-some, fault-in, fault-only}
-use Rattle.analyze.proofs.Statements.{moved-on}
-use Rattle.analyze.proofs.Walking.{in-use, tables-same}
+use Rattle.paths.specs.declared.NamePlace.{NamePlace}
+use Rattle.paths.specs.declared.Path.{Path}
+use Rattle.declarations.specs.declared.Declared.{Declared}
+use Rattle.declarations.specs.Items.{ContractAt, DeclaredAs, Given}
+use Rattle.tables.specs.State.{pathAt, tablesOf, Ready, faultIn, branchIn, OnlyFault, Moved, started, accepted}
+use Rattle.statements.specs.Steps.{tablesWith, InUse}
+use Rattle.analyze.specs.Analysis.{analyzed, finished, answered, Analyzed}
+use Rattle.tables.proofs.State.{outcome-fault, fault-some, fault-in, fault-only}
+use Rattle.blocks.proofs.Blocks.{moved-on}
+use Rattle.statements.proofs.Walking.{in-use, tables-same}
 
 -- what comes after flow and the count
 abbrev rest : Contract → Result (List Table)

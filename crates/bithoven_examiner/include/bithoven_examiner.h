@@ -1,13 +1,13 @@
-/* The Bithoven examiner: Check and Report on a listing.
+/* The Bithoven examiner: Check, Report and Name on a listing.
  *
  * Link with libbithoven_examiner.a (x86-64; `rt staticlib bithoven_examiner` writes it to target/staticlib/).
  *
  * STACK. A call takes up to 1.1 MB of stack, 64 KiB of it for work memory: make it on a thread that has 2 MB or more.
  * Nothing checks this at run time. docs/ARCHITECTURE.md says what was measured.
  *
- * Neither function allocates, keeps state, or reads or writes anything but its arguments; both may be called from several
- * threads at once. No pointer may be null, not even with length 0. `answer` must point to five words; the three must not
- * overlap.
+ * No function allocates, keeps state, or reads or writes anything but its arguments; all may be called from several threads
+ * at once. No pointer may be null, not even with length 0. `answer` must point to five words and `place` to two; what the
+ * pointers of a call point to must not overlap.
  */
 #ifndef BITHOVEN_EXAMINER_H
 #define BITHOVEN_EXAMINER_H
@@ -44,6 +44,18 @@ BITHOVEN_MUST_USE uint32_t bithoven_check(const uint8_t *listing, size_t listing
  * Returns the length of the text, 0 with 6. A text opens with `A,` if the listing is accepted, else with `R,`. */
 BITHOVEN_MUST_USE size_t bithoven_report(const uint8_t *listing, size_t listing_len, uint8_t *output, size_t output_len,
                                          uint32_t answer[5]);
+
+/* Name: where the listing holds the name of an item.
+ *
+ * listing, listing_len   the bytes of the listing
+ * path                   the item's path, from 0
+ * position               its position on the path's stack, 0 being the top
+ * place                  gets two numbers: how many bytes of the listing precede the name, and how many it has; two zeros if
+ *                        the listing is refused or has no such item (a name has at least one byte)
+ *
+ * Returns what bithoven_check returns: 0 if and only if the listing is accepted, be there such an item or not. */
+BITHOVEN_MUST_USE uint32_t bithoven_name(const uint8_t *listing, size_t listing_len, uint32_t path, uint32_t position,
+                                         uint32_t place[2]);
 
 #ifdef __cplusplus
 }

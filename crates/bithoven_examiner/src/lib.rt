@@ -1,4 +1,4 @@
-// Check and Report for C and Rust. Work memory is the function's own.
+// Check, Report and Name for C and Rust. Work memory is the function's own.
 ghost use mathlib.Core.Path.{_≡_};
 ghost use mathlib.Core.Logic.{_↔_};
 ghost use lib.ListN.{length, getD, take};
@@ -7,17 +7,19 @@ ghost use Rattle.examiner.specs.Check.{check as checkOf};
 ghost use Rattle.examiner.specs.InOrder.{InOrder};
 ghost use Rattle.examiner.specs.Report.{report as reportOf, opening};
 ghost use Rattle.examiner.specs.Lent.{outputAfter};
-ghost use Rattle.ast.specs.declared.Checked.the-variants.{Err};
-ghost use Rattle.bithoven_examiner.specs.Numbers.{numbersOf};
-use ast::Checked;
+ghost use Rattle.examiner.specs.Name.{name as nameOf};
+ghost use Rattle.examiner.specs.declared.Verdict.the-variants.{Refused};
+ghost use Rattle.bithoven_examiner.specs.Numbers.{numbersOf, placeNumbers};
 use ast::CompileError;
 use ast::numbers::error_number;
+use examiner::Verdict;
 use examiner::check;
+use examiner::name::name_place;
 use examiner::report::report;
 
 // A refusal in numbers.
 fn put_fault(answer: &mut [u32; 5], x: CompileError)
-    ensures { λ _. ⌜ now (answer .exit) ≡ numbersOf (Err x) ⌝ }
+    ensures { λ _. ⌜ now (answer .exit) ≡ numbersOf (Refused x) ⌝ }
 {
     let loc = x.loc;
     let kind = x.kind;
@@ -25,14 +27,32 @@ fn put_fault(answer: &mut [u32; 5], x: CompileError)
 }
 
 // An answer in numbers.
-fn put_answer(answer: &mut [u32; 5], c: Checked)
+fn put_answer(answer: &mut [u32; 5], c: Verdict)
     ensures { λ _. ⌜ now (answer .exit) ≡ numbersOf c ⌝ }
 {
     match c {
-        Checked::Ok => {
+        Verdict::Accepted => {
             *answer = [0, 0, 0, 0, 0];
         }
-        Checked::Err(x) => put_fault(answer, x),
+        Verdict::Refused(x) => put_fault(answer, x),
+    }
+}
+
+// The number of a refusal.
+fn fault_number(x: CompileError) -> u32
+    ensures { λ r. ⌜ r ≡ getD (numbersOf (Refused x)) 0 0 ⌝ }
+{
+    let kind = x.kind;
+    error_number(kind)
+}
+
+// The number of an answer.
+fn answer_number(c: Verdict) -> u32
+    ensures { λ r. ⌜ r ≡ getD (numbersOf c) 0 0 ⌝ }
+{
+    match c {
+        Verdict::Accepted => 0,
+        Verdict::Refused(x) => fault_number(x),
     }
 }
 
@@ -62,4 +82,24 @@ pub extern "C" fn bithoven_report(listing: &[u8], output: &mut [u8], answer: &mu
     let c = r.answer;
     put_answer(answer, c);
     r.length
+}
+
+// Name: the number that Check returns; `place` gets where the item's name stands in the listing and how long it is, or zeros if the
+// listing is refused or has no such item.
+#[no_mangle]
+pub extern "C" fn bithoven_name(
+    listing: &[u8],
+    path: u32,
+    position: u32,
+    place: &mut [u32; 2],
+) -> u32
+    ensures { λ r. ⌜ r ≡ getD (numbersOf (checkOf (now (listing .entry)) workWords)) 0 0 ⌝ }
+    ensures { λ _. ⌜ now (place .exit) ≡ placeNumbers (nameOf (now (listing .entry)) workWords path position) ⌝ }
+{
+    let mut work: [u32; 16384] = [0; 16384];
+    let n = name_place(listing, &mut work, path, position);
+    let x = n.place;
+    *place = [x.at as u32, x.len as u32];
+    let c = n.answer;
+    answer_number(c)
 }

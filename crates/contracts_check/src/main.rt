@@ -1,16 +1,18 @@
-// Runs Report on each sample of contracts/ and prints the name of its file and the report. In data/listings a record with the
-// name stands before each listing; tools/contracts.py writes that file and what is to be printed.
-ghost use Prim.Native.Nat.{_<_};
-ghost use Rattle.io.specs.Counts.{Counts};
-use ast::Checked;
+// Runs Report and Name on each sample of contracts/ and prints the name of its file, the report, and the names of its items: the
+// lines `N,path,position,name`, from the top of each path on until Name gives none. In data/listings a record with the file's name
+// stands before each listing; tools/contracts.py writes data/listings and what is to be printed.
+use examiner::Verdict;
+use examiner::name::name;
 use libc::STDOUT_FILENO;
+use records::Head;
+use records::print_number;
+use records::read_bytes;
+use records::read_end;
+use records::read_head;
+use records::wide;
 
-// A record's head: how many bytes it has; or the end of the file; or what is no head.
-enum Head {
-    Of(usize),
-    End,
-    Cut,
-}
+// A listing has at most 32 paths, and a path 32 items; one more of each is asked for.
+const ASKED: u32 = 33;
 
 // How many listings there were, and how many were accepted.
 struct Tally {
@@ -24,72 +26,15 @@ enum Step {
     Stop,
 }
 
-// What a decimal digit stands for: the low half of its byte.
-fn digit(b: u8) -> usize
-    ensures { λ r. ⌜ r < 16 ⌝ }
-{
-    (b % 16) as usize
-}
-
-// The five digits of a head.
-fn length_in(head: &[u8; 6]) -> usize {
-    let a = digit(head[0]);
-    let b = digit(head[1]);
-    let c = digit(head[2]);
-    let d = digit(head[3]);
-    let e = digit(head[4]);
-    10000 * a + 1000 * b + 100 * c + 10 * d + e
-}
-
-// The next head: the length in 5 digits, and byte 10.
-fn read_head(fd: i32) -> Head {
-    let mut head = [0u8; 6];
-    let n = io::read_full(fd, &mut head);
-    if n == 0 {
-        return Head::End;
-    }
-    if n < 6 {
-        return Head::Cut;
-    }
-    if head[5] != b'\n' {
-        return Head::Cut;
-    }
-    Head::Of(length_in(&head))
-}
-
-// The next `size` bytes, at the start of the buffer; none where it is too small.
-fn read_bytes(fd: i32, size: usize, buffer: &mut [u8]) -> usize
-    ensures { λ r. ⌜ Counts r (now (buffer .exit)) ⌝ }
-{
-    if size > buffer.len() {
-        return 0;
-    }
-    io::read_full(fd, &mut buffer[..size])
-}
-
-// Is the next byte a 10?
-fn read_end(fd: i32) -> bool {
-    let mut end = [0u8; 1];
-    if io::read_full(fd, &mut end) < 1 {
-        return false;
-    }
-    end[0] == b'\n'
-}
-
-fn print_number(n: u64, after: &[u8]) {
-    io::print_decimal(STDOUT_FILENO, n);
-    io::write_all(STDOUT_FILENO, after);
-}
-
 fn cut_short(index: u64) -> Step {
     print_number(index, b" is cut short\n");
     Step::Stop
 }
 
-fn accepted(c: Checked) -> u64 {
+fn accepted(c: Verdict) -> u64 {
     match c {
-        Checked::Ok => 1,
-        Checked::Err(_) => 0,
+        Verdict::Accepted => 1,
+        Verdict::Refused(_) => 0,
     }
 }
 
@@ -104,8 +49,43 @@ fn print_report(listing: &[u8]) -> u64 {
     accepted(c)
 }
 
+// The name of an item. Is there one?
+fn print_item(listing: &[u8], path: u32, position: u32) -> bool {
+    let mut work = [0u32; 16384];
+    let part = name(listing, &mut work, path, position);
+    if part.len() == 0 {
+        return false;
+    }
+    io::write_all(STDOUT_FILENO, b"N,");
+    print_number(wide(path), b",");
+    print_number(wide(position), b",");
+    io::write_all(STDOUT_FILENO, part);
+    io::write_all(STDOUT_FILENO, b"\n");
+    true
+}
+
+// The names of a path's items, from the top.
+fn print_path(listing: &[u8], path: u32) {
+    let mut position: u32 = 0;
+    while position < ASKED {
+        if !print_item(listing, path, position) {
+            return;
+        }
+        position += 1;
+    }
+}
+
+fn print_names(listing: &[u8]) {
+    let mut path: u32 = 0;
+    while path < ASKED {
+        print_path(listing, path);
+        path += 1;
+    }
+}
+
 fn counted(listing: &[u8], t: Tally) -> Tally {
     let more = print_report(listing);
+    print_names(listing);
     Tally {
         listings: std::num::wrapping_add_u64(t.listings, 1),
         accepted: std::num::wrapping_add_u64(t.accepted, more),
@@ -126,7 +106,7 @@ fn report_record(fd: i32, size: usize, t: Tally) -> Step {
 }
 
 fn next_listing(fd: i32, t: Tally) -> Step {
-    let head = read_head(fd);
+    let head = read_head(fd, b'\n');
     match head {
         Head::Of(size) => report_record(fd, size, t),
         Head::End => cut_short(t.listings),
@@ -134,8 +114,8 @@ fn next_listing(fd: i32, t: Tally) -> Step {
     }
 }
 
-// Prints the record of a name as a line. Was it whole?
-fn print_name(fd: i32, size: usize) -> bool {
+// Prints the record of a file's name as a line. Was it whole?
+fn print_file(fd: i32, size: usize) -> bool {
     let mut buffer = [0u8; 4096];
     let n = read_bytes(fd, size, &mut buffer);
     if n < size {
@@ -146,8 +126,8 @@ fn print_name(fd: i32, size: usize) -> bool {
     read_end(fd)
 }
 
-fn name_record(fd: i32, size: usize, t: Tally) -> Step {
-    if !print_name(fd, size) {
+fn file_record(fd: i32, size: usize, t: Tally) -> Step {
+    if !print_file(fd, size) {
         return cut_short(t.listings);
     }
     next_listing(fd, t)
@@ -155,9 +135,9 @@ fn name_record(fd: i32, size: usize, t: Tally) -> Step {
 
 // A name and its listing.
 fn next_sample(fd: i32, t: Tally) -> Step {
-    let head = read_head(fd);
+    let head = read_head(fd, b'\n');
     match head {
-        Head::Of(size) => name_record(fd, size, t),
+        Head::Of(size) => file_record(fd, size, t),
         Head::End => Step::Stop,
         Head::Cut => cut_short(t.listings),
     }

@@ -1,45 +1,42 @@
 -- What Check answers and leaves, from what its parts did.
-use Prim.Native.Nat.{ℕ, zero, suc, _*_, _≤_, _<_}
+use Prim.Native.Nat.{ℕ, zero, suc, _≤_, _<_}
 use native.Mathlib.Omega.{arith}
 use mathlib.Core.Bool.{Bool, true, false}
 use mathlib.Core.List.{List}
 use mathlib.Core.Logic.{_↔_}
 use mathlib.Core.Option.{some}
 use mathlib.Core.Path.{_≡_, refl, sym, ap, _∙_, subst}
-use borrow.Author.Tests.{ltb-true, ltb-false, le-ltb, eq-eqb, ne-eqb}
+use borrow.Author.Tests.{ltb-false, le-ltb, eq-eqb, ne-eqb}
 use lib.Dec.{ltb}
 use lib.ListN.{length, drop, getD}
 use Rattle.ast.specs.declared.ErrorKind.{ErrorKind}
 use Rattle.ast.specs.declared.ErrorKind.the-variants.{WorkTooShort}
 use Rattle.ast.specs.declared.CompileError.{CompileError}
-use Rattle.ast.specs.declared.Checked.{Checked}
-use Rattle.ast.specs.declared.Checked.the-variants.{Ok, Err}
 use Rattle.ast.specs.Tree.{Contract, fault, unplaced}
-use Rattle.text.specs.declared.Place.{Place}
 use Rattle.listing.specs.declared.Line.{Line}
-use Rattle.listing.specs.declared.Lexed.{Lexed}
 use Rattle.listing.specs.declared.Lexed.the-variants.{Good}
 use Rattle.listing.specs.Forms.{Next, found, malformed, ended, nextLine, lexed, lineAt}
 use Rattle.listing.specs.Kinds.{partOf}
 use Rattle.listing.proofs.Places.{line-good}
 use Rattle.listing.proofs.Parts.{line-part}
-use Rattle.rules.specs.Result.{answer}
 use Rattle.rules.specs.Analyze.{analyze}
 use Rattle.rows.specs.Rows.{lineIn, withRows}
 use Rattle.rows.specs.Work.{workWords, cleared}
 use Rattle.rows.proofs.Laws.{clear-rows, rows-length}
-use Rattle.reader.specs.declared.ListingRead.{ListingRead}
-use Rattle.reader.specs.declared.ListingRead.the-variants.{Rows, Refused}
+use Rattle.reading.specs.declared.ListingRead.{ListingRead}
+use Rattle.reading.specs.declared.ListingRead.the-variants.{Rows, Refused}
 use Rattle.reader.specs.Source.{Read, read, refused}
 use Rattle.reader.specs.Reading.{readListing}
 use Rattle.reader.specs.Spells.{SpellsContract, nth, linesOf, lineIn as lineOf}
-use Rattle.reader.specs.Held.{rowsOf, rowsLeft, listingRead, workRead, Spelled}
+use Rattle.reading.specs.Held.{rowsOf, rowsLeft, listingRead, workRead, Spelled}
 use Rattle.reader.proofs.Complete.{reads-readable}
 use Rattle.rules.specs.Table.{Table}
 use Rattle.ast.specs.Numbers.{kindFrom}
-use Rattle.analyze.specs.Items.{ContractAt}
-use Rattle.analyze.specs.State.{locationIn, faultIn, analyzed as numbered}
-use Rattle.examiner.specs.Check.{analyzed, examine, check}
+use Rattle.declarations.specs.Items.{ContractAt}
+use Rattle.tables.specs.State.{locationIn, faultIn}
+use Rattle.analyze.specs.Analysis.{analyzed as numbered}
+use Rattle.examiner.specs.declared.Verdict.{Verdict}
+use Rattle.examiner.specs.Check.{analyzed, examine, verdict, check}
 use Rattle.examiner.specs.Lent.{workAfter}
 use Rattle.examiner.specs.InOrder.{InOrder}
 use Rattle.examiner.proofs.Demand3.{examined, demand3}
@@ -49,22 +46,22 @@ refused≢rows h = let z : _≡_ {A = ℕ} 0 1 = cc in omega arith
 
 -- a refusal of the reading is Check's, and leaves work as Check does
 module _ (s : List ℕ) (x : CompileError) where
-  pub check-refused : (words : ℕ) → listingRead s words ≡ Refused x → Err x ≡ check s words
-  unfolding listingRead rowsOf check examine analyzed answer
+  pub check-refused : (words : ℕ) → listingRead s words ≡ Refused x → Verdict.Refused x ≡ check s words
+  unfolding listingRead rowsOf check examine analyzed verdict
   check-refused words h = go (ltb words workWords) refl
     where
-      reading : ltb words workWords ≡ false → (y : Read Contract) → readListing s ≡ y → Err x ≡ check s words
+      reading : ltb words workWords ≡ false → (y : Read Contract) → readListing s ≡ y → Verdict.Refused x ≡ check s words
       reading e (read c q) f = absurd (refused≢rows (sym (rw (e, f, listingRead) at h)))
       reading e (refused z) f =
           let g : _≡_ {A = ListingRead} (Refused z) (Refused x) = rw (e, f, listingRead) at h in
           let i : x ≡ z = cc in
-          rw (e, f, check, examine) (ap Err i)
+          rw (e, f, check, examine) (ap Verdict.Refused i)
 
-      go : (b : Bool) → ltb words workWords ≡ b → Err x ≡ check s words
+      go : (b : Bool) → ltb words workWords ≡ b → Verdict.Refused x ≡ check s words
       go true e =
           let g : _≡_ {A = ListingRead} (Refused (fault WorkTooShort unplaced)) (Refused x) = rw (e, listingRead) at h in
           let i : x ≡ fault WorkTooShort unplaced = cc in
-          rw (e, check, examine) (ap Err i)
+          rw (e, check, examine) (ap Verdict.Refused i)
       go false e = reading e (readListing s) refl
 
   pub work-refused : (w : List ℕ) → listingRead s (length w) ≡ Refused x → workRead s w ≡ workAfter w
@@ -113,9 +110,9 @@ module _ (s w t : List ℕ) (n : ℕ) (h : Spelled s t n) where
       }
 
   module _ (enough : workWords ≤ length w) where
-    pub check-read : check s (length w) ≡ answer (analyze (h .contract))
+    pub check-read : check s (length w) ≡ verdict (analyze (h .contract))
     unfolding check
-    check-read = ap answer (examined s (length w) (h .contract) enough (h .source, h .reads))
+    check-read = ap verdict (examined s (length w) (h .contract) enough (h .source, h .reads))
 
     module _ (e : t ≡ workRead s w) where
       rows : t ≡ withRows w (h .source .index) (linesOf s)
@@ -142,19 +139,19 @@ rows-enough s words n h = go (ltb words workWords) refl
     go false e = ltb-false words workWords e
 
 -- demand 3 of the answer
-demanded : (s : List ℕ) (words : ℕ) (r : Checked) → r ≡ check s words → (r ≡ Ok) ↔ InOrder s words
-demanded s words r e = subst (λ r. (r ≡ Ok) ↔ InOrder s words) (sym e) (demand3 s words)
+demanded : (s : List ℕ) (words : ℕ) (r : Verdict) → r ≡ check s words → (r ≡ Verdict.Accepted) ↔ InOrder s words
+demanded s words r e = subst (λ r. (r ≡ Verdict.Accepted) ↔ InOrder s words) (sym e) (demand3 s words)
 
 -- what Check promises of its answer r and of work at exit t
-abbrev pub Promised : List ℕ → List ℕ → Checked → List ℕ → Type 0
-Promised s w r t = (r ≡ check s (length w)) × ((t ≡ workAfter w) × ((r ≡ Ok) ↔ InOrder s (length w)))
+abbrev pub Promised : List ℕ → List ℕ → Verdict → List ℕ → Type 0
+Promised s w r t = (r ≡ check s (length w)) × ((t ≡ workAfter w) × ((r ≡ Verdict.Accepted) ↔ InOrder s (length w)))
 
 module _ (s w t : List ℕ) {y : ListingRead} (answered : y ≡ listingRead s (length w)) (held : t ≡ workRead s w) where
-  pub refuses : (x : CompileError) → y ≡ Refused x → Promised s w (Err x) t
+  pub refuses : (x : CompileError) → y ≡ Refused x → Promised s w (Verdict.Refused x) t
   refuses x e =
       let h = sym answered ∙ e in
       let r = check-refused s x (length w) h in
-      (r, (held ∙ work-refused s x w h, demanded s (length w) (Err x) r))
+      (r, (held ∙ work-refused s x w h, demanded s (length w) (Verdict.Refused x) r))
 
   module _ (n : ℕ) (e : y ≡ Rows n) (h : Spelled s t n) where
     enough : workWords ≤ length w
@@ -163,17 +160,17 @@ module _ (s w t : List ℕ) {y : ListingRead} (answered : y ≡ listingRead s (l
     pub may-check : ContractAt s t n × (workWords ≤ length t)
     may-check = (spelled-at s w t n h, room-read s w t n h enough held)
 
-    pub answers : (r : Checked) (u : List ℕ) → ((c : Contract) → SpellsContract (lineIn t) s c n → r ≡ answer (analyze c)) → u ≡ cleared t → Promised s w r u
+    pub answers : (r : Verdict) (u : List ℕ) → ((c : Contract) → SpellsContract (lineIn t) s c n → r ≡ verdict (analyze c)) → u ≡ cleared t → Promised s w r u
     answers r u f c =
         let a : r ≡ check s (length w) = f (h .contract) (h .spells) ∙ sym (check-read s w t n h enough) in
         (a, (c ∙ work-read s w t n h enough held, demanded s (length w) r a))
 
 -- the answer that the numbers of an analysis say
 module _ (ts : List Table) (out : List ℕ) where
-  pub says-pass : getD out 0 0 ≡ 0 → Ok ≡ answer (numbered ts out)
-  unfolding numbered answer
+  pub says-pass : getD out 0 0 ≡ 0 → Verdict.Accepted ≡ verdict (numbered ts out)
+  unfolding numbered verdict
   says-pass h = rw (eq-eqb (getD out 0 0) 0 h, numbered) refl
 
-  pub says-fault : (getD out 0 0 ≡ 0 → ⊥) → (k : ErrorKind) → k ≡ kindFrom (getD out 0 0) → Err (record { loc = record { start = getD out 1 0; end = getD out 2 0; line = getD out 3 0; column = getD out 4 0 }; kind = k }) ≡ answer (numbered ts out)
-  unfolding numbered answer faultIn locationIn
+  pub says-fault : (getD out 0 0 ≡ 0 → ⊥) → (k : ErrorKind) → k ≡ kindFrom (getD out 0 0) → Verdict.Refused (record { loc = record { start = getD out 1 0; end = getD out 2 0; line = getD out 3 0; column = getD out 4 0 }; kind = k }) ≡ verdict (numbered ts out)
+  unfolding numbered verdict faultIn locationIn
   says-fault h k e = rw (ne-eqb (getD out 0 0) 0 h, numbered, e) refl

@@ -2,40 +2,38 @@
 use Prim.Native.Nat.{ℕ, _+_, _≤_, _<_}
 use native.Mathlib.Omega.{arith}
 use mathlib.Core.Bool.{Bool, true, false}
-use mathlib.Core.List.{List, [], _∷_, _++_}
-use mathlib.Core.Path.{_≡_, refl, sym, ap, _∙_, subst}
-use borrow.Author.Tests.{lt-ltb, le-ltb, ltb-true, ltb-false, eqb-true, eq-eqb}
+use mathlib.Core.List.{List, _++_}
+use mathlib.Core.Path.{_≡_, refl, sym, ap, _∙_}
+use borrow.Author.Tests.{lt-ltb, le-ltb, ltb-false, eqb-true}
 use lib.Dec.{ltb, eqb}
 use lib.ListN.{length, getD, take, drop, length-append, length-drop}
 use Rattle.ast.specs.declared.ErrorKind.the-variants.{WorkTooShort, OutputTooShort}
 use Rattle.ast.specs.declared.CompileError.{CompileError}
-use Rattle.ast.specs.declared.Checked.{Checked}
-use Rattle.ast.specs.declared.Checked.the-variants.{Ok, Err}
-use Rattle.ast.specs.Tree.{Contract, unplaced}
-use Rattle.rules.specs.Result.{Result, ok, err, refused, answer}
+use Rattle.ast.specs.Tree.{Contract, fault, unplaced}
+use Rattle.rules.specs.Result.{Result, ok, err}
 use Rattle.rules.specs.Table.{Table}
 use Rattle.rules.specs.Analyze.{analyze}
-use Rattle.rules.proofs.Basics.{Err≢Ok}
 use Rattle.rows.specs.Rows.{lineIn}
 use Rattle.rows.specs.Work.{workWords, cleared}
-use Rattle.reader.specs.declared.ListingRead.{ListingRead}
-use Rattle.reader.specs.declared.ListingRead.the-variants.{Rows, Refused}
-use Rattle.reader.specs.Source.{Read, read, refused as unread}
-use Rattle.reader.specs.Reading.{readListing}
+use Rattle.reading.specs.declared.ListingRead.{ListingRead}
+use Rattle.reading.specs.declared.ListingRead.the-variants.{Refused}
+use Rattle.reader.specs.Source.{read}
 use Rattle.reader.specs.Spells.{SpellsContract}
-use Rattle.reader.specs.Held.{rowsOf, listingRead, workRead, Spelled}
-use Rattle.usage.specs.declared.NamePlace.{NamePlace}
-use Rattle.analyze.specs.declared.Declared.{Declared}
-use Rattle.analyze.specs.State.{faultIn, tablesOf, Ready, Analyzed, analyzed as numbered}
+use Rattle.reading.specs.Held.{listingRead, workRead, Spelled}
+use Rattle.paths.specs.declared.NamePlace.{NamePlace}
+use Rattle.declarations.specs.declared.Declared.{Declared}
+use Rattle.tables.specs.State.{tablesOf, Ready}
+use Rattle.analyze.specs.Analysis.{Analyzed, analyzed as numbered}
 use Rattle.output.specs.Put.{most, puts, Room, Wrote}
 use Rattle.output.proofs.Laws.{puts-off, puts-whole}
 use Rattle.reporting.specs.Text.{fields, reportLine, acceptance, refusal, textOf}
 use Rattle.examiner.specs.declared.Reported.{Reported}
-use Rattle.examiner.specs.Check.{analyzed, examine, check}
+use Rattle.examiner.specs.declared.Verdict.{Verdict}
+use Rattle.examiner.specs.Check.{examine, verdict, check}
 use Rattle.examiner.specs.Report.{reportText, reported, report, opening}
 use Rattle.examiner.specs.Lent.{workAfter, written, outputAfter}
-use Rattle.examiner.proofs.Demand3.{examined}
-use Rattle.examiner.proofs.Checking.{refused≢rows, check-refused, work-refused, spelled-at, room-read, work-read}
+use Rattle.examiner.proofs.Demand3.{refused≢accepted, examined}
+use Rattle.examiner.proofs.Checking.{check-refused, work-refused, work-read}
 
 pub refusal-text : (x : CompileError) → textOf (err x) ≡ refusal x
 unfolding textOf
@@ -47,7 +45,7 @@ acceptance-text ts = refl
 
 -- 6
 abbrev tooShort : Reported
-tooShort = record { answer = refused OutputTooShort unplaced; length = 0 }
+tooShort = record { answer = Verdict.Refused (fault OutputTooShort unplaced); length = 0 }
 
 -- a text that is measured, and then written if output has room for it
 module _ (w : Result (List Table)) (text : List ℕ) (is : textOf w ≡ text) {out out₁ : List ℕ} {bound n : ℕ} (measured : Wrote false out 0 text bound out₁ n) where
@@ -66,20 +64,20 @@ module _ (w : Result (List Table)) (text : List ℕ) (is : textOf w ≡ text) {o
   pub may-write : n ≤ length out₁ → bound ≤ most → Room true out₁ 0 text bound
   may-write h b = let e = measured .past in record { fits = λ t. omega arith; counts = omega arith }
 
-  pub has-room : (a : Checked) → a ≡ answer w → n ≤ length out₁ → {out₂ : List ℕ} {m : ℕ} → Wrote true out₁ 0 text bound out₂ m → (record { answer = a; length = n } ≡ reported w (length out)) × (out₂ ≡ written (textOf w) out)
+  pub has-room : (a : Verdict) → a ≡ verdict w → n ≤ length out₁ → {out₂ : List ℕ} {m : ℕ} → Wrote true out₁ 0 text bound out₂ m → (record { answer = a; length = n } ≡ reported w (length out)) × (out₂ ≡ written (textOf w) out)
   unfolding reported written
   has-room a e h {out₂} wrote =
       let l : length (textOf w) ≤ length out = omega (arith, ap length same, long) in
       let whole : out₂ ≡ textOf w ++ drop (length (textOf w)) out =
       wrote .holds ∙ ap (λ (o : List ℕ). puts true o 0 text) same ∙ ap (puts true out 0) (sym is) ∙ puts-whole out (textOf w) l in
-      (rw (le-ltb (length out) (length (textOf w)) l, reported) (ap (λ a. record { answer = a; length = n }) e ∙ ap (λ n. record { answer = answer w; length = n }) long), rw (le-ltb (length out) (length (textOf w)) l, written) whole)
+      (rw (le-ltb (length out) (length (textOf w)) l, reported) (ap (λ a. record { answer = a; length = n }) e ∙ ap (λ n. record { answer = verdict w; length = n }) long), rw (le-ltb (length out) (length (textOf w)) l, written) whole)
 
 -- what Report promises of its answer r, of work at exit t and of output at exit o
 abbrev pub Promised : List ℕ → List ℕ → List ℕ → Reported → List ℕ → List ℕ → Type 0
 Promised s w out r t o = (r ≡ report s (length w) (length out)) × ((t ≡ workAfter w) × ((o ≡ outputAfter s (length w) out) × ((r .length ≡ 0 → ⊥) → take 2 o ≡ opening (check s (length w)))))
 
-text-opens : (w : Result (List Table)) (rest : List ℕ) → take 2 (textOf w ++ rest) ≡ opening (answer w)
-unfolding textOf acceptance refusal reportLine fields answer opening
+text-opens : (w : Result (List Table)) (rest : List ℕ) → take 2 (textOf w ++ rest) ≡ opening (verdict w)
+unfolding textOf acceptance refusal reportLine fields verdict opening
 text-opens (ok ts) rest = refl
 text-opens (err x) rest = refl
 
@@ -99,7 +97,7 @@ module _ (s w out : List ℕ) where
       go true p = absurd (h (ap (λ r. r .length) (rw (p, report) at e)))
       go false p = room p (ltb (length out) (length (textOf (examine s (length w))))) refl
 
-  pub short : (r : Reported) → length w < workWords → r ≡ record { answer = refused WorkTooShort unplaced; length = 0 } → Promised s w out r w out
+  pub short : (r : Reported) → length w < workWords → r ≡ record { answer = Verdict.Refused (fault WorkTooShort unplaced); length = 0 } → Promised s w out r w out
   unfolding report outputAfter workAfter
   short r h e =
       let p = lt-ltb (length w) workWords h in
@@ -118,18 +116,18 @@ module _ (s w out : List ℕ) where
         (a, (e, (b, opens r o a b)))
 
 -- an answer says what was found
-pub answer-err : (w : Result (List Table)) (x : CompileError) → Err x ≡ answer w → w ≡ err x
-unfolding answer
-answer-err (ok ts) x h = absurd (Err≢Ok h)
-answer-err (err y) x h = let e : y ≡ x = cc in ap err e
+pub verdict-refused : (w : Result (List Table)) (x : CompileError) → Verdict.Refused x ≡ verdict w → w ≡ err x
+unfolding verdict
+verdict-refused (ok ts) x h = absurd (refused≢accepted h)
+verdict-refused (err y) x h = let e : y ≡ x = cc in ap err e
 
-pub answer-ok : (ts : List Table) (out : List ℕ) → Ok ≡ answer (numbered ts out) → (getD out 0 0 ≡ 0) × (numbered ts out ≡ ok ts)
-unfolding numbered answer
-answer-ok ts out h = go (eqb (getD out 0 0) 0) refl
+pub verdict-accepted : (ts : List Table) (out : List ℕ) → Verdict.Accepted ≡ verdict (numbered ts out) → (getD out 0 0 ≡ 0) × (numbered ts out ≡ ok ts)
+unfolding numbered verdict
+verdict-accepted ts out h = go (eqb (getD out 0 0) 0) refl
   where
     go : (b : Bool) → eqb (getD out 0 0) 0 ≡ b → (getD out 0 0 ≡ 0) × (numbered ts out ≡ ok ts)
     go true e = (eqb-true (getD out 0 0) 0 e, rw (e, numbered) refl)
-    go false e = absurd (Err≢Ok (sym (rw (e, numbered) at h)))
+    go false e = absurd (refused≢accepted (sym (rw (e, numbered) at h)))
 
 module _ (s w t out : List ℕ) {y : ListingRead} (enough : workWords ≤ length w) (answered : y ≡ listingRead s (length w)) (held : t ≡ workRead s w) where
   -- a listing that is not read
@@ -137,7 +135,7 @@ module _ (s w t out : List ℕ) {y : ListingRead} (enough : workWords ≤ length
   unfolding check
   report-refused x e r o f g =
       let h = sym answered ∙ e in
-      let found = answer-err (examine s (length w)) x (check-refused s x (length w) h) in
+      let found = verdict-refused (examine s (length w)) x (check-refused s x (length w) h) in
       reports s w out enough (err x) found r t o (held ∙ work-refused s x w h) f g
 
   -- and one that is
@@ -146,12 +144,12 @@ module _ (s w t out : List ℕ) {y : ListingRead} (enough : workWords ≤ length
       reports s w out enough (analyze (h .contract)) (examined s (length w) (h .contract) enough (h .source, h .reads)) r u o (e ∙ work-read s w t n h enough held) (f (h .contract) (h .spells)) (g (h .contract) (h .spells))
 
 -- what an analysis found, by the answer that its numbers say
-module _ {s t : List ℕ} {d : Declared} {rows : List (List NamePlace)} {taken out : List ℕ} {w : Result (List Table)} (a : Analyzed s t d w rows taken out) {c : Checked} (says : (ts : List Table) → c ≡ answer (numbered ts out)) where
-  pub found-fault : (x : CompileError) → c ≡ Err x → err x ≡ w
-  found-fault x e = sym (answer-err w x (sym e ∙ says (tablesOf s t d rows taken) ∙ ap answer (a .result)))
+module _ {s t : List ℕ} {d : Declared} {rows : List (List NamePlace)} {taken out : List ℕ} {w : Result (List Table)} (a : Analyzed s t d w rows taken out) {c : Verdict} (says : (ts : List Table) → c ≡ verdict (numbered ts out)) where
+  pub found-fault : (x : CompileError) → c ≡ Verdict.Refused x → err x ≡ w
+  found-fault x e = sym (verdict-refused w x (sym e ∙ says (tablesOf s t d rows taken) ∙ ap verdict (a .result)))
 
-  pub found-tables : c ≡ Ok → Ready s t d rows taken × (ok (tablesOf s t d rows taken) ≡ w)
-  found-tables e = let p = answer-ok (tablesOf s t d rows taken) out (sym e ∙ says (tablesOf s t d rows taken)) in (a .ready (p .0), sym (p .1) ∙ a .result)
+  pub found-tables : c ≡ Verdict.Accepted → Ready s t d rows taken × (ok (tablesOf s t d rows taken) ≡ w)
+  found-tables e = let p = verdict-accepted (tablesOf s t d rows taken) out (sym e ∙ says (tablesOf s t d rows taken)) in (a .ready (p .0), sym (p .1) ∙ a .result)
 
 -- a text that is handed back fits
 pub report-fits : (s : List ℕ) (words room : ℕ) → report s words room .length ≤ room

@@ -1,43 +1,44 @@
 // Report: the answer, and its text in the lent output.
 ghost use mathlib.Core.Path.{_≡_};
-ghost use Prim.Native.Nat.{ℕ, _≤_};
+ghost use Prim.Native.Nat.{_≤_};
 ghost use lib.ListN.{length, take};
-ghost use Rattle.ast.specs.Tree.{Contract, unplaced};
-ghost use Rattle.rules.specs.Result.{ok, err, refused};
+ghost use Rattle.ast.specs.Tree.{Contract, fault, unplaced};
+ghost use Rattle.rules.specs.Result.{ok, err};
 ghost use Rattle.rules.specs.Analyze.{analyze as analyzeOf};
 ghost use Rattle.rows.specs.Rows.{lineIn};
 ghost use Rattle.rows.specs.Work.{workWords, cleared};
 ghost use Rattle.reader.specs.Ceilings.{maxBytes};
 ghost use Rattle.reader.specs.Spells.{SpellsContract};
-ghost use Rattle.analyze.specs.Items.{ContractAt, DeclaredAs};
-ghost use Rattle.analyze.specs.State.{tablesOf, Ready};
+ghost use Rattle.declarations.specs.Items.{ContractAt, DeclaredAs};
+ghost use Rattle.tables.specs.State.{tablesOf, Ready};
 ghost use Rattle.reporting.specs.Text.{textOf};
+ghost use Rattle.examiner.specs.declared.Verdict.{Verdict};
 ghost use Rattle.examiner.specs.Check.{check as checkOf};
 ghost use Rattle.examiner.specs.Report.{reported, report as reportOf, opening};
 ghost use Rattle.examiner.specs.Lent.{workAfter, written, outputAfter};
 use crate::Reported;
-use crate::checked_in;
-use analyze::Declared;
+use crate::Verdict;
+use crate::verdict_in;
 use analyze::analyze;
-use analyze::declarations;
-use ast::Checked;
 use ast::CompileError;
 use ast::ErrorKind;
 use ast::unplaced;
-use reader::ListingRead;
-use reader::read_listing;
+use declarations::Declared;
+use declarations::declarations;
+use paths::NamePlace;
+use reading::ListingRead;
+use reading::read_listing;
 use reporting::put_acceptance;
 use reporting::put_refusal;
-use usage::NamePlace;
 
 const WORK_WORDS: usize = 16384;
 
 // A refusal that has no text: 5 or 6.
 fn without_text(kind: ErrorKind) -> Reported
-    ensures { λ r. ⌜ r ≡ record { answer = refused kind unplaced; length = 0 } ⌝ }
+    ensures { λ r. ⌜ r ≡ record { answer = Verdict.Refused (fault kind unplaced); length = 0 } ⌝ }
 {
     Reported {
-        answer: Checked::Err(CompileError {
+        answer: Verdict::Refused(CompileError {
             loc: unplaced(),
             kind,
         }),
@@ -56,7 +57,7 @@ fn report_refusal(output: &mut [u8], x: CompileError) -> Reported
     }
     put_refusal(output, true, 0, x);
     Reported {
-        answer: Checked::Err(x),
+        answer: Verdict::Refused(x),
         length: n,
     }
 }
@@ -80,7 +81,7 @@ fn report_acceptance(
     }
     put_acceptance(listing, table, d, rows, taken, output, true, 0);
     Reported {
-        answer: Checked::Ok,
+        answer: Verdict::Accepted,
         length: size,
     }
 }
@@ -94,10 +95,10 @@ fn report_table(listing: &[u8], table: &[u32], n: usize, d: Declared, output: &m
     let mut taken: [u32; 32] = [0; 32];
     let mut out: [u32; 7] = [0; 7];
     let held = analyze(listing, table, n, d, &mut taken, &mut out);
-    let answer = checked_in(&out);
+    let answer = verdict_in(&out);
     match answer {
-        Checked::Err(x) => report_refusal(output, x),
-        Checked::Ok => report_acceptance(listing, table, d, held, &taken, output),
+        Verdict::Refused(x) => report_refusal(output, x),
+        Verdict::Accepted => report_acceptance(listing, table, d, held, &taken, output),
     }
 }
 

@@ -7,17 +7,17 @@ ghost use Rattle.rows.specs.Rows.{lineIn};
 ghost use Rattle.reader.specs.Spells.{SpellsStatement, SpellsBlock};
 ghost use Rattle.rules.specs.Flow.{flowLast, flow};
 ghost use Rattle.nodes.specs.Stands.{StatementAt, BlockAt, walked};
-ghost use Rattle.limits.specs.Somewhere.{Somewhere};
+ghost use Rattle.nodes.specs.Somewhere.{Somewhere};
 use crate::goes_on;
 use crate::place_of;
-use crate::skip_statement;
 use ast::ErrorKind;
 use ast::nowhere;
-use limits::skip_expression;
 use listing::StatementLine;
 use nodes::Answer;
 use nodes::block_at;
 use nodes::refuse;
+use nodes::skip_expression;
+use nodes::skip_statement;
 use nodes::statement_at;
 
 // A block: first 19 at a statement after an if or a return, then its last statement; an empty block is 18.

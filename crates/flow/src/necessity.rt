@@ -7,12 +7,12 @@ ghost use Rattle.rows.specs.Rows.{lineIn};
 ghost use Rattle.reader.specs.Spells.{SpellsStatement, SpellsBlock};
 ghost use Rattle.rules.specs.Paths.{countThrough, count};
 ghost use Rattle.nodes.specs.Stands.{StatementAt, BlockAt};
-ghost use Rattle.limits.specs.Somewhere.{Somewhere};
+ghost use Rattle.nodes.specs.Somewhere.{Somewhere};
 use crate::goes_on;
-use crate::skip_statements;
-use limits::skip_expression;
 use listing::StatementLine;
 use nodes::block_at;
+use nodes::skip_expression;
+use nodes::skip_statements;
 use nodes::statement_at;
 
 // A number of paths, and the row after what was counted.

@@ -21,7 +21,8 @@ struct bithoven_place {
 };
 
 /* A path: `count` places from the stack's top, which is the last declared item; position k is taken if bit k of `taken` is
- * 1. The caller makes one with lines 0 and `taken` 0. */
+ * 1. Items are taken from the top down, so the taken positions run from position 0. The caller makes one with lines 0 and
+ * `taken` 0. */
 struct bithoven_path {
     struct bithoven_place places[32];
     uint32_t count;
@@ -42,7 +43,8 @@ struct bithoven_answer {
 struct bithoven_answer bithoven_rows(const uint8_t *listing, size_t listing_len, uint32_t *work, size_t work_len);
 
 /* The variable of row `row` (its listing line less 1) is taken from the path by that line. Refuses with 12, 13 or 15; and
- * with 3, nowhere, if `path` is no path of these rows or the row is no variable's. A refusal leaves the path as it was. */
+ * with 3, nowhere, if `path` is no path of these rows (more than 32 places, one whose row is no P line, or a taken set that
+ * does not run from position 0 or reaches past `count`) or the row is no variable's. A refusal leaves the path as it was. */
 struct bithoven_answer bithoven_take(struct bithoven_path *path, const uint8_t *listing, size_t listing_len,
                                      const uint32_t *table, size_t table_len, size_t row);
 

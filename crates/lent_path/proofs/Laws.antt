@@ -8,30 +8,23 @@ use mathlib.Core.Logic.{_⊎_, inl, inr}
 use mathlib.Core.Option.{Option, some, none}
 use mathlib.Core.Path.{_≡_, refl, sym, ap, _∙_}
 use borrow.Author.Tests.{ltb-true, leb-true, leb-false, lt-ltb, le-ltb}
-use denote.Enum.Declared.{tagOf}
 use denote.Laws.{Is}
 use denote.Struct.Laws as LL
 use mir.Val.{Val}
-use types.Run.{OneOf, miss}
 use lib.Dec.{ltb, leb}
 use lib.ListN.{length, getD, length-map, List·getD-map}
 use lib.Pow.{pow-lt}
 use Rattle.ast.specs.declared.CompileError.{CompileError}
 use Rattle.ast.specs.declared.Location.{Location}
-use Rattle.ast.specs.declared.Type.{«Type» as ItemType}
 use Rattle.text.specs.declared.Place.{Place}
 use Rattle.text.specs.Text.{part}
 use Rattle.listing.specs.declared.Line.{Line}
 use Rattle.listing.specs.declared.Line.the-variants.{Contract, Declaration, StackParam, Block, Statement, Expression, Factor}
-use Rattle.listing.specs.declared.StatementLine.{StatementLine}
-use Rattle.listing.specs.declared.StatementLine.the-variants.{IfStatement, LocktimeStatement, VerifyStatement, ExpressionStatement}
 use Rattle.listing.specs.declared.ExpressionLine.{ExpressionLine}
-use Rattle.listing.specs.declared.ExpressionLine.the-variants.{Variable, NumberLiteral, BooleanLiteral, StringLiteral, LogicalExpression, CompareExpression, BinaryMathExpression, UnaryMathExpression, UnaryCryptoExpression, ByteExpression, CheckSigExpression}
 use Rattle.listing.specs.Kinds.{itemLine, statementLine, expressionLine}
-use Rattle.listing.proofs.Line as LineT
-use Rattle.listing.proofs.StatementLine as StatementLineT
-use Rattle.listing.proofs.ExpressionLine as ExpressionLineT
-use Rattle.rows.specs.Rows.{lineIn}
+use Rattle.rows.specs.declared.Words.{Words}
+use Rattle.rows.specs.Rows.{placeIn, partIn, keptAs, lineOf, rowIn, lineIn, rowWords, HasRow}
+use Rattle.rows.proofs.Forms.{each-form}
 use Rattle.rules.specs.Result.{Result, ok, err}
 use Rattle.rules.specs.Table.{Table}
 use Rattle.rules.specs.Usage.{take}
@@ -39,14 +32,16 @@ use Rattle.rules.specs.Transfer.{transfer}
 use Rattle.rules.proofs.Basics.{err≢ok, true≢false′, and-true}
 use Rattle.nodes.specs.declared.Answer.{Answer}
 use Rattle.nodes.specs.declared.Answer.the-variants.{Pass, Fault}
+use Rattle.nodes.proofs.Laws.{line-by}
 use Rattle.names.specs.Items.{NamedRow, Inside}
-use Rattle.usage.specs.declared.NamePlace.{NamePlace}
-use Rattle.usage.specs.declared.Path.{Path}
-use Rattle.usage.specs.declared.Used.{Used}
-use Rattle.usage.specs.Path.{tableOf, rowsOf, noPlace, WellFormed, SameItems, Walked}
-use Rattle.usage.proofs.Path as PathT
-use Rattle.usage.proofs.Path.Laws as PathL
-use Rattle.usage.proofs.Walks.{walked-ok, walked-err, same-items}
+use Rattle.paths.specs.declared.NamePlace.{NamePlace}
+use Rattle.paths.specs.declared.Path.{Path}
+use Rattle.paths.specs.declared.Used.{Used}
+use Rattle.taken.specs.Taken.{isRun}
+use Rattle.paths.specs.Path.{tableOf, rowsOf, noPlace, WellFormed, SameItems, Walked}
+use Rattle.paths.proofs.Path as PathT
+use Rattle.paths.proofs.Path.Laws as PathL
+use Rattle.paths.proofs.Walks.{walked-ok, walked-err, same-items}
 use Rattle.lent_path.specs.declared.Left.{Left}
 use Rattle.lent_path.specs.declared.Variable.{Variable as RowVariable}
 use Rattle.lent_path.specs.declared.Variable.the-variants.{At, Missing}
@@ -72,65 +67,17 @@ unfolding isInside
 inside-so s x h = let l : x .at + x .len < suc (length s) = ltb-true _ _ h in omega arith
 
 -- ---- the kinds of a row
-pub row-there : (t : List ℕ) (i : ℕ) → i < length t / 9 → isRow t i ≡ true
+pub row-there : (t : List ℕ) (i : ℕ) → i < length t / rowWords → isRow t i ≡ true
 unfolding isRow
-row-there t i h = lt-ltb i (length t / 9) h
+row-there t i h = lt-ltb i (length t / rowWords) h
 
-room-of : (t : List ℕ) (i : ℕ) → isRow t i ≡ true → i * 9 + 9 ≤ length t
+room-of : (t : List ℕ) (i : ℕ) → isRow t i ≡ true → HasRow t i
 unfolding isRow
-room-of t i h = let l : i < length t / 9 = ltb-true _ _ h in omega arith
+room-of t i h = let l : i < length t / rowWords = ltb-true _ _ h in omega arith
 
-pub row-not : (t : List ℕ) (i : ℕ) → length t / 9 ≤ i → isRow t i ≡ false
+pub row-not : (t : List ℕ) (i : ℕ) → length t / rowWords ≤ i → isRow t i ≡ false
 unfolding isRow
-row-not t i h = le-ltb i (length t / 9) h
-
-pub no-item : (l : Line) → OneOf (0 ∷ 1 ∷ 3 ∷ 4 ∷ 5 ∷ 6 ∷ []) (tagOf LineT.the-type l) → itemLine l ≡ none
-no-item (Contract g n) h = refl
-no-item (Declaration n) h = refl
-no-item (StackParam w t x) h = absurd (miss (0 ∷ 1 ∷ 3 ∷ 4 ∷ 5 ∷ 6 ∷ []) 2 tt h)
-no-item (Block n) h = refl
-no-item (Statement l) h = refl
-no-item (Expression l) h = refl
-no-item (Factor l) h = refl
-
-pub no-statement : (l : Line) → OneOf (0 ∷ 1 ∷ 2 ∷ 3 ∷ 5 ∷ 6 ∷ []) (tagOf LineT.the-type l) → statementLine l ≡ none
-no-statement (Contract g n) h = refl
-no-statement (Declaration n) h = refl
-no-statement (StackParam w t x) h = refl
-no-statement (Block n) h = refl
-no-statement (Statement l) h = absurd (miss (0 ∷ 1 ∷ 2 ∷ 3 ∷ 5 ∷ 6 ∷ []) 4 tt h)
-no-statement (Expression l) h = refl
-no-statement (Factor l) h = refl
-
-pub no-expression : (l : Line) → OneOf (0 ∷ 1 ∷ 2 ∷ 3 ∷ 4 ∷ 6 ∷ []) (tagOf LineT.the-type l) → expressionLine l ≡ none
-no-expression (Contract g n) h = refl
-no-expression (Declaration n) h = refl
-no-expression (StackParam w t x) h = refl
-no-expression (Block n) h = refl
-no-expression (Statement l) h = refl
-no-expression (Expression l) h = absurd (miss (0 ∷ 1 ∷ 2 ∷ 3 ∷ 4 ∷ 6 ∷ []) 5 tt h)
-no-expression (Factor l) h = refl
-
-pub no-if : (l : StatementLine) → OneOf (1 ∷ 2 ∷ 3 ∷ []) (tagOf StatementLineT.the-type l) → ifOf (some l) ≡ Other
-unfolding ifOf
-no-if (IfStatement w e) h = absurd (miss (1 ∷ 2 ∷ 3 ∷ []) 0 tt h)
-no-if (LocktimeStatement w o n) h = refl
-no-if (VerifyStatement w) h = refl
-no-if (ExpressionStatement w) h = refl
-
-pub no-variable : (s : List ℕ) (l : ExpressionLine) → OneOf (1 ∷ 2 ∷ 3 ∷ 4 ∷ 5 ∷ 6 ∷ 7 ∷ 8 ∷ 9 ∷ 10 ∷ []) (tagOf ExpressionLineT.the-type l) → variableOf s (some l) ≡ Missing
-unfolding variableOf namedVariable
-no-variable s (Variable w x) h = absurd (miss (1 ∷ 2 ∷ 3 ∷ 4 ∷ 5 ∷ 6 ∷ 7 ∷ 8 ∷ 9 ∷ 10 ∷ []) 0 tt h)
-no-variable s (NumberLiteral w v) h = refl
-no-variable s (BooleanLiteral w b) h = refl
-no-variable s (StringLiteral w x m) h = refl
-no-variable s (LogicalExpression w o) h = refl
-no-variable s (CompareExpression w o) h = refl
-no-variable s (BinaryMathExpression w o) h = refl
-no-variable s (UnaryMathExpression w o) h = refl
-no-variable s (UnaryCryptoExpression w o) h = refl
-no-variable s (ByteExpression w) h = refl
-no-variable s (CheckSigExpression w) h = refl
+row-not t i h = le-ltb i (length t / rowWords) h
 
 -- ---- items
 module _ (s t : List ℕ) (i : ℕ) where
@@ -138,17 +85,18 @@ module _ (s t : List ℕ) (i : ℕ) where
   unfolding isItem
   item-is b l r e = rw (r, e)
 
-  pub item-out : length t / 9 ≤ i → isItem s t i ≡ false
+  pub item-out : length t / rowWords ≤ i → isItem s t i ≡ false
   item-out h = item-is false (lineIn t i) (row-not t i h) refl
 
-  module _ (h : i < length t / 9) (l : Line) (e : l ≡ lineIn t i) where
-    pub item-other : OneOf (0 ∷ 1 ∷ 3 ∷ 4 ∷ 5 ∷ 6 ∷ []) (tagOf LineT.the-type l) → isItem s t i ≡ false
-    unfolding namedItem
-    item-other k = item-is true l (row-there t i h) (sym e) ∙ ap (namedItem s) (no-item l k)
+  module _ (h : i < length t / rowWords) {r : Words} (e : r ≡ rowIn t i) where
+    pub item-other : (r .kind ≡ 80 → ⊥) → isItem s t i ≡ false
+    unfolding namedItem lineIn
+    item-other o =
+        item-is true (lineOf r) (row-there t i h) (ap lineOf (sym e)) ∙ each-form (λ l. namedItem s (itemLine l) ≡ false) r (λ k. refl, (λ k. refl, (λ k. absurd (o k), (λ k. refl, (λ k. refl, (λ k. refl, (λ k. refl, (λ k. refl, (λ k. refl, (λ k. refl, (λ k. refl, (λ k. refl, (λ k. refl, (λ k. refl, (λ k. refl, (λ k. refl, (λ k. refl, (λ k. refl, (λ k. refl, (λ k. refl, (λ k. refl, refl)))))))))))))))))))))
 
-    pub item-here : {w : Location} {y : ItemType} {x : Place} → l ≡ StackParam w y x → isItem s t i ≡ isInside s x
-    unfolding namedItem
-    item-here {w} {y} {x} f = item-is true (StackParam w y x) (row-there t i h) (sym e ∙ f)
+    pub item-here : r .kind ≡ 80 → isItem s t i ≡ isInside s (partIn r)
+    unfolding namedItem keptAs
+    item-here o = item-is true _ (row-there t i h) (line-by t i 80 e o refl)
 
   item-named : isItem s t i ≡ true → NamedRow s t i
   unfolding namedItem
@@ -213,20 +161,26 @@ module _ (s t : List ℕ) (p : Path) where
   path-sound full h =
       let a = and-true (ltb (p .count) 33) (isOwn (p .taken) (p .count) && areItems s t (rowsOf p) 0 (p .count)) h in
       let b = and-true (isOwn (p .taken) (p .count)) (areItems s t (rowsOf p) 0 (p .count)) (a .1) in
-      record { full = full; few = omega (arith, ltb-true (p .count) 33 (a .0)); within = ltb-true _ _ (b .0); rows = λ k l. items-named s t (rowsOf p) (p .count) 0 (b .1) k (omega arith) (omega arith) }
+      let own = and-true (isRun (p .taken)) (ltb (p .taken) (2 ^ p .count)) (b .0) in
+      record { full = full; few = omega (arith, ltb-true (p .count) 33 (a .0)); within = ltb-true _ _ (own .1); run = own .0; rows = λ k l. items-named s t (rowsOf p) (p .count) 0 (b .1) k (omega arith) (omega arith) }
 
 -- the row of a place
 pub place-row : (p : Path) (k : ℕ) → getD (rowsOf p) k 0 ≡ getD (p .places) k noPlace .row
 place-row p k = List·getD-map (λ (q : NamePlace). q .row) (p .places) k noPlace
 
--- only positions below n are taken: by `1 << n`, and every set of 32
-pub own-shift : (x n : ℕ) → n < 32 → ltb x (1 * 2 ^ n % 2 ^ 32) ≡ isOwn x n
+-- a run of positions below n: by `1 << n`, and every one of 32
+pub own-gap : (x n : ℕ) → isRun x ≡ false → isOwn x n ≡ false
 unfolding isOwn
-own-shift x n h = ap (ltb x) (ap (λ (m : ℕ). m % 2 ^ 32) (one-mul (2 ^ n)) ∙ mod-eq-of-lt (pow-lt h))
+own-gap x n r = rw r
 
-pub own-all : (x n : ℕ) → x < 2 ^ 32 → n ≡ 32 → isOwn x n ≡ true
-unfolding isOwn
-own-all x n h e = rw e (lt-ltb x (2 ^ 32) h)
+module _ (x n : ℕ) (r : isRun x ≡ true) where
+  pub own-shift : n < 32 → ltb x (1 * 2 ^ n % 2 ^ 32) ≡ isOwn x n
+  unfolding isOwn
+  own-shift h = rw r (ap (ltb x) (ap (λ (m : ℕ). m % 2 ^ 32) (one-mul (2 ^ n)) ∙ mod-eq-of-lt (pow-lt h)))
+
+  pub own-all : x < 2 ^ 32 → n ≡ 32 → isOwn x n ≡ true
+  unfolding isOwn
+  own-all h e = rw (r, e) (lt-ltb x (2 ^ 32) h)
 
 -- ---- what is left of a path
 module _ {s t : List ℕ} {p : Path} {w : Result Table} {r : Left} where
@@ -249,25 +203,22 @@ module _ (s t : List ℕ) (i : ℕ) where
   variable-far h = rw (le-ltb i 65535 h)
 
   module _ (low : i < 65535) where
-    pub variable-out : length t / 9 ≤ i → variableIn s t i ≡ Missing
+    pub variable-out : length t / rowWords ≤ i → variableIn s t i ≡ Missing
     unfolding variableIn
     variable-out h = rw (lt-ltb i 65535 low, row-not t i h)
 
-    variable-is : i < length t / 9 → {l : Line} → lineIn t i ≡ l → variableIn s t i ≡ variableOf s (expressionLine l)
+    variable-is : i < length t / rowWords → {l : Line} → lineIn t i ≡ l → variableIn s t i ≡ variableOf s (expressionLine l)
     unfolding variableIn
     variable-is h e = rw (lt-ltb i 65535 low, row-there t i h, e)
 
-    module _ (h : i < length t / 9) (l : Line) (e : l ≡ lineIn t i) where
-      pub variable-other : OneOf (0 ∷ 1 ∷ 2 ∷ 3 ∷ 4 ∷ 6 ∷ []) (tagOf LineT.the-type l) → variableIn s t i ≡ Missing
-      unfolding variableOf
-      variable-other k = variable-is h (sym e) ∙ ap (variableOf s) (no-expression l k)
+    module _ (h : i < length t / rowWords) {r : Words} (e : r ≡ rowIn t i) where
+      pub variable-other : (r .kind ≡ 118 → ⊥) → variableIn s t i ≡ Missing
+      unfolding variableOf namedVariable lineIn
+      variable-other o = variable-is h (ap lineOf (sym e)) ∙ each-form (λ l. variableOf s (expressionLine l) ≡ Missing) r (λ k. refl, (λ k. refl, (λ k. refl, (λ k. refl, (λ k. refl, (λ k. refl, (λ k. refl, (λ k. refl, (λ k. absurd (o k), (λ k. refl, (λ k. refl, (λ k. refl, (λ k. refl, (λ k. refl, (λ k. refl, (λ k. refl, (λ k. refl, (λ k. refl, (λ k. refl, (λ k. refl, (λ k. refl, refl)))))))))))))))))))))
 
-      pub variable-none : (m : ExpressionLine) → l ≡ Expression m → OneOf (1 ∷ 2 ∷ 3 ∷ 4 ∷ 5 ∷ 6 ∷ 7 ∷ 8 ∷ 9 ∷ 10 ∷ []) (tagOf ExpressionLineT.the-type m) → variableIn s t i ≡ Missing
-      variable-none m f k = variable-is h (sym e ∙ f) ∙ no-variable s m k
-
-      pub variable-here : {m : ExpressionLine} {w : Location} {x : Place} → l ≡ Expression m → m ≡ Variable w x → variableIn s t i ≡ namedVariable s (some (w, x))
-      unfolding variableOf
-      variable-here f g = variable-is h (sym e ∙ f ∙ ap Expression g)
+      pub variable-here : r .kind ≡ 118 → variableIn s t i ≡ namedVariable s (some (placeIn r, partIn r))
+      unfolding variableOf keptAs
+      variable-here o = variable-is h (line-by t i 118 e o refl)
 
 pub named-inside : (s : List ℕ) (w : Location) (x : Place) → isInside s x ≡ true → namedVariable s (some (w, x)) ≡ At w x
 unfolding namedVariable
@@ -278,25 +229,22 @@ unfolding namedVariable
 named-outside s w x h = rw h
 
 module _ (t : List ℕ) (i : ℕ) where
-  pub if-out : length t / 9 ≤ i → ifIn t i ≡ Other
+  pub if-out : length t / rowWords ≤ i → ifIn t i ≡ Other
   unfolding ifIn
   if-out h = rw (row-not t i h)
 
-  module _ (h : i < length t / 9) (l : Line) (e : l ≡ lineIn t i) where
+  module _ (h : i < length t / rowWords) {r : Words} (e : r ≡ rowIn t i) where
     if-is : {l : Line} → lineIn t i ≡ l → ifIn t i ≡ ifOf (statementLine l)
     unfolding ifIn
     if-is e = rw (row-there t i h, e)
 
-    pub if-other : OneOf (0 ∷ 1 ∷ 2 ∷ 3 ∷ 5 ∷ 6 ∷ []) (tagOf LineT.the-type l) → ifIn t i ≡ Other
-    unfolding ifOf
-    if-other k = if-is (sym e) ∙ ap ifOf (no-statement l k)
+    pub if-other : (r .kind ≡ 73 → ⊥) → ifIn t i ≡ Other
+    unfolding ifOf lineIn
+    if-other o = if-is (ap lineOf (sym e)) ∙ each-form (λ l. ifOf (statementLine l) ≡ Other) r (λ k. refl, (λ k. refl, (λ k. refl, (λ k. refl, (λ k. absurd (o k), (λ k. refl, (λ k. refl, (λ k. refl, (λ k. refl, (λ k. refl, (λ k. refl, (λ k. refl, (λ k. refl, (λ k. refl, (λ k. refl, (λ k. refl, (λ k. refl, (λ k. refl, (λ k. refl, (λ k. refl, (λ k. refl, refl)))))))))))))))))))))
 
-    pub if-none : (m : StatementLine) → l ≡ Statement m → OneOf (1 ∷ 2 ∷ 3 ∷ []) (tagOf StatementLineT.the-type m) → ifIn t i ≡ Other
-    if-none m f k = if-is (sym e ∙ f) ∙ no-if m k
-
-    pub if-here : {m : StatementLine} {w : Location} {b : Bool} → l ≡ Statement m → m ≡ IfStatement w b → ifIn t i ≡ If w
-    unfolding ifOf
-    if-here f g = if-is (sym e ∙ f ∙ ap Statement g)
+    pub if-here : r .kind ≡ 73 → ifIn t i ≡ If (placeIn r)
+    unfolding ifOf keptAs
+    if-here o = if-is (line-by t i 73 e o refl)
 
 where-at : {w : Location} {x : Place} (b : Bool) (v : RowVariable) → whereVariable b v ≡ At w x → (b ≡ true) × (v ≡ At w x)
 where-at true v h = (refl, h)

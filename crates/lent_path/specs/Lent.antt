@@ -7,17 +7,17 @@ use Rattle.ast.specs.declared.CompileError.{CompileError}
 use Rattle.ast.specs.declared.ErrorKind.{ErrorKind}
 use Rattle.ast.specs.Tree.{fault, unplaced, number}
 use Rattle.text.specs.Text.{part}
-use Rattle.reader.specs.declared.ListingRead.{ListingRead}
-use Rattle.reader.specs.declared.ListingRead.the-variants.{Rows, Refused}
+use Rattle.reading.specs.declared.ListingRead.{ListingRead}
+use Rattle.reading.specs.declared.ListingRead.the-variants.{Rows, Refused}
 use Rattle.rules.specs.Result.{Result, ok, err}
 use Rattle.rules.specs.Table.{Table}
 use Rattle.rules.specs.Usage.{take}
 use Rattle.rules.specs.Transfer.{transfer}
 use Rattle.nodes.specs.declared.Answer.{Answer}
 use Rattle.nodes.specs.declared.Answer.the-variants.{Pass, Fault}
-use Rattle.usage.specs.declared.Path.{Path}
-use Rattle.usage.specs.declared.Used.{Used}
-use Rattle.usage.specs.Path.{tableOf, WellFormed, SameItems}
+use Rattle.paths.specs.declared.Path.{Path}
+use Rattle.paths.specs.declared.Used.{Used}
+use Rattle.paths.specs.Path.{tableOf, WellFormed, SameItems}
 use Rattle.lent_path.specs.declared.Answered.{Answered}
 use Rattle.lent_path.specs.declared.Left.{Left}
 use Rattle.lent_path.specs.declared.Variable.{Variable}

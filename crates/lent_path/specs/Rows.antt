@@ -13,9 +13,10 @@ use Rattle.listing.specs.declared.StatementLine.{StatementLine}
 use Rattle.listing.specs.declared.StatementLine.the-variants.{IfStatement, LocktimeStatement, VerifyStatement, ExpressionStatement}
 use Rattle.listing.specs.declared.ExpressionLine.{ExpressionLine}
 use Rattle.listing.specs.Kinds.{itemLine, statementLine, expressionLine}
-use Rattle.rows.specs.Rows.{lineIn}
-use Rattle.usage.specs.declared.Path.{Path}
-use Rattle.usage.specs.Path.{rowsOf}
+use Rattle.rows.specs.Rows.{lineIn, rowWords}
+use Rattle.paths.specs.declared.Path.{Path}
+use Rattle.taken.specs.Taken.{isRun}
+use Rattle.paths.specs.Path.{rowsOf}
 use Rattle.lent_path.specs.declared.Variable.{Variable}
 use Rattle.lent_path.specs.declared.Branch.{Branch}
 
@@ -25,7 +26,7 @@ isInside s x = ltb (x .at + x .len) (suc (length s))
 
 -- row i is there
 unfoldable pub isRow : List ℕ → ℕ → Bool
-isRow t i = ltb i (length t / 9)
+isRow t i = ltb i (length t / rowWords)
 
 unfoldable pub namedItem : List ℕ → Option (Location × ItemType × Place) → Bool
 namedItem s none = false
@@ -35,9 +36,9 @@ namedItem s (some (w, y, x)) = isInside s x
 unfoldable pub isItem : List ℕ → List ℕ → ℕ → Bool
 isItem s t i = isRow t i && namedItem s (itemLine (lineIn t i))
 
--- only positions below n are taken
+-- the taken positions run from the top and are below n
 unfoldable pub isOwn : ℕ → ℕ → Bool
-isOwn taken n = ltb taken (2 ^ n)
+isOwn taken n = isRun taken && ltb taken (2 ^ n)
 
 -- n of a path's rows from position k on are items' lines
 unfoldable pub areItems : List ℕ → List ℕ → List ℕ → ℕ → ℕ → Bool

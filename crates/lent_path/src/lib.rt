@@ -3,7 +3,7 @@ ghost use mathlib.Core.Path.{_≡_};
 ghost use Prim.Native.Nat.{_≤_};
 ghost use lib.ListN.{length};
 ghost use Rattle.ast.specs.Tree.{fault, unplaced};
-ghost use Rattle.reader.specs.Held.{listingRead, workRead};
+ghost use Rattle.reading.specs.Held.{listingRead, workRead};
 ghost use Rattle.rules.specs.Result.{err};
 ghost use Rattle.lent_path.specs.Rows.{isInside, isItem, isOwn, isPath, variableIn, ifIn};
 ghost use Rattle.lent_path.specs.Lent.{answered, answeredRead, kept, takeAt, transferAt, Kept};
@@ -12,18 +12,20 @@ use ast::ErrorKind;
 use ast::Location;
 use ast::numbers::error_number;
 use ast::unplaced;
-use listing::ExpressionLine;
-use listing::Line;
-use listing::StatementLine;
+use listing::letters;
 use nodes::Answer;
-use reader::ListingRead;
-use reader::read_listing;
-use rows::row;
+use paths::Path;
+use paths::Used;
+use paths::take;
+use reading::ListingRead;
+use reading::read_listing;
+use rows::ROW_WORDS;
+use rows::part_in;
+use rows::place_in;
+use rows::row_in;
+use taken::is_top_run;
 use text::Place;
-use usage::Path;
-use usage::Used;
-use usage::take;
-use usage::transfer_prefix_consumption;
+use transfer::transfer_prefix_consumption;
 
 // An answer in numbers: 0 and no location, or the refusal's.
 #[repr(C)]
@@ -69,28 +71,31 @@ fn is_inside(listing: &[u8], x: Place) -> bool
 fn is_item(listing: &[u8], table: &[u32], i: usize) -> bool
     ensures { λ r. ⌜ r ≡ isItem (now (listing .entry)) (now (table .entry)) i ⌝ }
 {
-    if table.len() / 9 <= i {
+    if table.len() / ROW_WORDS <= i {
         return false;
     }
-    let l = row(table, i);
-    let Line::StackParam(_, _, x) = l else {
+    let r = row_in(table, i);
+    if r.kind != letters::ITEM {
         return false;
-    };
-    is_inside(listing, x)
+    }
+    is_inside(listing, part_in(r))
 }
 
-// Whether only positions below `count` are taken.
+// Whether the taken positions run from the top and are below `count`.
 fn is_own(taken: u32, count: u32) -> bool
     requires { ⌜ count ≤ 32 ⌝ }
     ensures { λ r. ⌜ r ≡ isOwn taken count ⌝ }
 {
+    if !is_top_run(taken) {
+        return false;
+    }
     if count == 32 {
         return true;
     }
     taken < (1 << count)
 }
 
-// Whether a path's rows are items' lines, and only positions that it has are taken.
+// Whether a path's rows are items' lines, and the taken positions are ones that it has and run from the top.
 pub fn is_path(listing: &[u8], table: &[u32], path: Path) -> bool
     ensures { λ r. ⌜ r ≡ isPath (now (listing .entry)) (now (table .entry)) path ⌝ }
 {
@@ -119,18 +124,16 @@ fn variable_at(listing: &[u8], table: &[u32], i: usize) -> Variable
     if 65535 <= i {
         return Variable::Missing;
     }
-    if table.len() / 9 <= i {
+    if table.len() / ROW_WORDS <= i {
         return Variable::Missing;
     }
-    let l = row(table, i);
-    let Line::Expression(e) = l else {
+    let r = row_in(table, i);
+    if r.kind != letters::VARIABLE {
         return Variable::Missing;
-    };
-    let ExpressionLine::Variable(loc, x) = e else {
-        return Variable::Missing;
-    };
+    }
+    let x = part_in(r);
     if is_inside(listing, x) {
-        Variable::At(loc, x)
+        Variable::At(place_in(r), x)
     } else {
         Variable::Missing
     }
@@ -140,17 +143,15 @@ fn variable_at(listing: &[u8], table: &[u32], i: usize) -> Variable
 fn if_at(table: &[u32], i: usize) -> Branch
     ensures { λ r. ⌜ r ≡ ifIn (now (table .entry)) i ⌝ }
 {
-    if table.len() / 9 <= i {
+    if table.len() / ROW_WORDS <= i {
         return Branch::Other;
     }
-    let l = row(table, i);
-    let Line::Statement(e) = l else {
-        return Branch::Other;
-    };
-    let StatementLine::IfStatement(loc, _) = e else {
-        return Branch::Other;
-    };
-    Branch::If(loc)
+    let r = row_in(table, i);
+    if r.kind == letters::IF {
+        Branch::If(place_in(r))
+    } else {
+        Branch::Other
+    }
 }
 
 fn accepted() -> Answered

@@ -14,9 +14,9 @@ use denote.Memory.{mem, cellAt, partOf}
 use denote.Steps.{only, owned, peeks}
 use denote.Struct.Steps.{spelt}
 use denote.Struct.Laws as LL
-use Rattle.usage.specs.declared.Path.{Path}
-use Rattle.usage.proofs.Path as T
-use Rattle.usage.proofs.Path.Laws as T′
+use Rattle.paths.specs.declared.Path.{Path}
+use Rattle.paths.proofs.Path as T
+use Rattle.paths.proofs.Path.Laws as T′
 
 -- a path's machine value
 abbrev pub path-vals : Path → List Val

@@ -9,10 +9,10 @@ use lent_path::take_at;
 use lent_path::transfer_at;
 use libc::STDIN_FILENO;
 use libc::STDOUT_FILENO;
-use reader::ListingRead;
-use reader::read_listing;
-use usage::NamePlace;
-use usage::Path;
+use paths::NamePlace;
+use paths::Path;
+use reading::ListingRead;
+use reading::read_listing;
 
 // A path that was lent at each step, and the same by value.
 struct Both {
@@ -149,8 +149,8 @@ fn transfer_both(listing: &[u8], table: &[u32], i: usize, from: Both, p: Both) -
     Both { lent: x, held: y }
 }
 
-// A path of two items.
-fn two_items(top: u16, below: u16) -> Both {
+// A path of two items, and those of them that are taken.
+fn two_items(top: u16, below: u16, taken: u32) -> Both {
     let mut places = [NamePlace { row: 0, line: 0 }; 32];
     places[0] = NamePlace { row: top, line: 0 };
     places[1] = NamePlace {
@@ -160,21 +160,21 @@ fn two_items(top: u16, below: u16) -> Both {
     let lent = Path {
         places,
         count: 2,
-        taken: 0,
+        taken,
     };
     let held = Path {
         places,
         count: 2,
-        taken: 0,
+        taken,
     };
     Both { lent, held }
 }
 
 // Rows 2 and 3 are the items of the first path, 5 and 6 of the second; row 8 is the if, 9 its condition, 14 and 19 are variables.
 fn drive(listing: &[u8], table: &[u32]) {
-    let fresh = two_items(3, 2);
-    let mut p = two_items(3, 2);
-    let mut q = two_items(6, 5);
+    let fresh = two_items(3, 2, 0);
+    let mut p = two_items(3, 2, 0);
+    let mut q = two_items(6, 5, 0);
     p = take_both(listing, table, 14, p);
     p = take_both(listing, table, 9, p);
     p = take_both(listing, table, 9, p);
@@ -191,11 +191,16 @@ fn drive(listing: &[u8], table: &[u32]) {
     q = transfer_both(listing, table, 8, q, q);
     p = transfer_both(listing, table, 8, q, p);
     // no paths: row 8 is no item's
-    let mut bad = two_items(3, 8);
+    let mut bad = two_items(3, 8, 0);
     bad = take_both(listing, table, 9, bad);
     bad = transfer_both(listing, table, 8, p, bad);
     p = transfer_both(listing, table, 8, bad, p);
     take_both(listing, table, 9, p);
+    // nor where the top is passed over
+    let mut gap = two_items(3, 2, 2);
+    gap = take_both(listing, table, 9, gap);
+    gap = transfer_both(listing, table, 8, fresh, gap);
+    transfer_both(listing, table, 8, gap, q);
 }
 
 fn read_and_drive(listing: &[u8]) {

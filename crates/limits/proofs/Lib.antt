@@ -1,6 +1,2 @@
 pub mod Digits
-pub mod Letters
-pub mod Nodes
-pub mod Parts
 pub mod Security
-pub mod Walks

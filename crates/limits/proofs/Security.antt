@@ -1,29 +1,32 @@
--- The expressions that are still due: what stands below the line of the first comes before the others; the factor of a signature check is skipped.
-use Prim.Native.Nat.{ℕ, _+_, _-_, _≤_, _<_}
+-- The expressions that are still due: the operands of the first come before the others; the factor of a signature check is skipped.
+use Prim.Native.Nat.{ℕ, suc, _+_, _-_, _≤_, _<_}
+use native.Mathlib.Numerals.{add-one}
 use native.Mathlib.Omega.{arith}
-use mathlib.Core.List.{List, [], _∷_}
-use mathlib.Core.Path.{_≡_, refl, _∙_}
+use denote.Enum.Declared.{tagOf}
+use types.Run.{OneOf, miss}
+use mathlib.Core.List.{List, [], _∷_, _++_}
+use mathlib.Core.Path.{_≡_, refl, ap, _∙_}
 use Rattle.ast.specs.declared.CompileError.{CompileError}
 use Rattle.ast.specs.declared.Checked.{Checked}
 use Rattle.ast.specs.declared.Checked.the-variants.{Ok, Err}
+use Rattle.ast.specs.declared.Location.{Location}
 use Rattle.ast.specs.Tree.{Expression, Factor}
 use Rattle.listing.specs.declared.ExpressionLine.{ExpressionLine}
 use Rattle.listing.specs.declared.Line.{Line}
+use Rattle.listing.proofs.ExpressionLine.{the-type}
 use Rattle.rows.specs.Rows.{lineIn}
 use Rattle.reader.specs.Ceilings.{maxLines}
+use Rattle.reader.specs.Parts.{countOf, expressionKind, expressionPart}
 use Rattle.reader.specs.Spells.{SpellsExpression, SpellsFactor}
+use Rattle.reader.proofs.Inversion.{ExpressionFrom}
 use Rattle.rules.specs.Result.{both}
 use Rattle.rules.specs.Limits.{security}
 use Rattle.nodes.specs.declared.Answer.the-variants.{Pass, Fault}
 use Rattle.nodes.specs.Stands.{Stands, walked, ExpressionAt, FactorAt}
-use Rattle.nodes.proofs.Laws.{below}
-use Rattle.limits.specs.declared.Operands.{Operands}
-use Rattle.limits.specs.declared.Operands.the-variants.{Nothing, One, Two, Signatures}
-use Rattle.limits.specs.Lines.{operandsOf, overflow}
-use Rattle.limits.specs.Nodes.{Node, expression, SpellsNodes}
-use Rattle.limits.proofs.Nodes.{counted, nodes-many}
-use Rattle.limits.proofs.Parts.{Below, operands-are, node-fault}
-use Rattle.limits.proofs.Walks.{at-row, walked-ok, walked-err}
+use Rattle.nodes.specs.Nodes.{Node, expression, SpellsNodes}
+use Rattle.nodes.proofs.Laws.{below, expression-is, at-row, walked-ok, walked-err}
+use Rattle.nodes.proofs.Nodes.{counted, nodes-many}
+use Rattle.limits.specs.Lines.{overflow}
 
 -- n expressions, one after the other, from row i up to j
 abbrev expressions : List Expression → List Node
@@ -46,20 +49,15 @@ both-both : (a b c : Checked) → both (both a b) c ≡ both a (both b c)
 both-both Ok b c = refl
 both-both (Err x) b c = refl
 
--- how many expressions the operands are
-abbrev pub expressionCount : Operands → ℕ
-expressionCount Nothing = 0
-expressionCount One = 1
-expressionCount Two = 2
-expressionCount Signatures = 0
+-- some before others
+all-before : (es fs : List Expression) → both (securityAll es) (securityAll fs) ≡ securityAll (es ++ fs)
+all-before [] fs = refl
+all-before (e ∷ es) fs = both-both (security e) (securityAll es) (securityAll fs) ∙ ap (both (security e)) (all-before es fs)
 
 module _ (L : ℕ → Line) (s : List ℕ) where
-  -- the row r from which a walk goes on, where the operands stand from row m on
-  abbrev pub GoesOn : Operands → ℕ → ℕ → Type 0
-  GoesOn Nothing m r = r ≡ m
-  GoesOn One m r = r ≡ m
-  GoesOn Two m r = r ≡ m
-  GoesOn Signatures m r = (f : Factor) (k : ℕ) → SpellsFactor L s m f k → r ≡ k
+  due-before : (es fs : List Expression) {m n i j k : ℕ} → Due L s m i es k → Due L s n k fs j → Due L s (m + n) i (es ++ fs) j
+  due-before [] fs SpellsNodes.nil v = counted L s v (omega arith)
+  due-before (e ∷ es) fs (SpellsNodes.expression u w) v = counted L s (SpellsNodes.expression u (due-before es fs w v)) (omega arith)
 
   -- the first, and the others
   due-first : (es : List Expression) {n i j : ℕ} → Due L s n i es j → 0 < n → (e : Expression) × (fs : List Expression) × (k : ℕ) × SpellsExpression L s i e k × Due L s (n - 1) k fs j × (securityAll es ≡ both (security e) (securityAll fs))
@@ -70,18 +68,64 @@ module _ (L : ℕ → Line) (s : List ℕ) where
   due-none [] SpellsNodes.nil h = (refl, refl)
   due-none (e ∷ es) (SpellsNodes.expression u v) h = absurd (omega arith)
 
-  -- what is due after the line of the first, which passed
-  due-below : (o : Operands) (m : ℕ) (e : Expression) (es : List Expression) {n r d j k : ℕ} → Below L s Ok o m e k → Due L s n k es j → GoesOn o m r → d ≡ expressionCount o + n → (fs : List Expression) × Due L s d r fs j × (both (security e) (securityAll es) ≡ securityAll fs)
-  due-below Nothing m e es {d = d} (q, p) v g c = (es, at-row (SpellsNodes L s d) (g ∙ q) (counted L s v (omega arith)), rw p)
-  due-below One m e es (a, u, p) v g c = (a ∷ es, counted L s (SpellsNodes.expression (at-row (SpellsExpression L s) g u) v) (omega arith), rw p)
-  due-below Two m e es (a, b, k, u, w, p) v g c = (a ∷ b ∷ es, counted L s (SpellsNodes.expression (at-row (SpellsExpression L s) g u) (SpellsNodes.expression w v)) (omega arith), rw p (both-both (security a) (security b) (securityAll es)))
-  due-below Signatures m e es {d = d} (f, u, p) v g c = (es, at-row (SpellsNodes L s d) (g f _ u) (counted L s v (omega arith)), rw p)
+  -- the operands of an expression: what check_security gives for it, and where they stand unless it is a signature check
+  abbrev Operands : ExpressionLine → ℕ → Expression → ℕ → Type 0
+  Operands x i e j = (es : List Expression) × (security e ≡ both (overflow s x) (securityAll es)) × (expressionPart x ≡ expressionKind → Due L s (countOf (Line.Expression x)) (suc i) es j)
 
-  due-more : (es : List Expression) {n i j r d : ℕ} {x : ExpressionLine} {o : Operands} → Due L s n i es j → 0 < n → L i ≡ Line.Expression x → overflow s x ≡ Ok → operandsOf x ≡ o → GoesOn o (i + 1) r → d ≡ expressionCount o + (n - 1) → (fs : List Expression) × Due L s d r fs j × (securityAll es ≡ securityAll fs)
-  due-more es {i = i} {o = o} v h l ok e g c =
+  none-below : {i j : ℕ} → j ≡ suc i → Due L s 0 (suc i) [] j
+  none-below q = rw q SpellsNodes.nil
+
+  one-below : {i j : ℕ} {a : Expression} → SpellsExpression L s (suc i) a j → Due L s 1 (suc i) (a ∷ []) j
+  one-below u = SpellsNodes.expression u SpellsNodes.nil
+
+  two-below : {i j k : ℕ} {a b : Expression} → SpellsExpression L s (suc i) a k → SpellsExpression L s k b j → Due L s 2 (suc i) (a ∷ b ∷ []) j
+  two-below u v = SpellsNodes.expression u (SpellsNodes.expression v SpellsNodes.nil)
+
+  operands-from : (i j : ℕ) (e : Expression) (x : ExpressionLine) → ExpressionFrom L s x i e j → Operands x i e j
+  unfolding security
+  operands-from i j e (ExpressionLine.Variable w x) (p, q) = ([], ap security p, λ h. none-below q)
+  operands-from i j e (ExpressionLine.NumberLiteral w v) (p, q) = ([], ap security p ∙ both-ok _, λ h. none-below q)
+  operands-from i j e (ExpressionLine.BooleanLiteral w b) (p, q) = ([], ap security p, λ h. none-below q)
+  operands-from i j e (ExpressionLine.StringLiteral w x m) (p, q) = ([], ap security p ∙ both-ok _, λ h. none-below q)
+  operands-from i j e (ExpressionLine.LogicalExpression w o) (a, b, k, u, v, p) = (a ∷ b ∷ [], ap security p ∙ ap (both (security a)) (both-ok _), λ h. two-below u v)
+  operands-from i j e (ExpressionLine.CompareExpression w o) (a, b, k, u, v, p) = (a ∷ b ∷ [], ap security p ∙ ap (both (security a)) (both-ok _), λ h. two-below u v)
+  operands-from i j e (ExpressionLine.BinaryMathExpression w o) (a, b, k, u, v, p) = (a ∷ b ∷ [], ap security p ∙ ap (both (security a)) (both-ok _), λ h. two-below u v)
+  operands-from i j e (ExpressionLine.UnaryMathExpression w o) (a, u, p) = (a ∷ [], ap security p ∙ both-ok _, λ h. one-below u)
+  operands-from i j e (ExpressionLine.UnaryCryptoExpression w o) (a, u, p) = (a ∷ [], ap security p ∙ both-ok _, λ h. one-below u)
+  operands-from i j e (ExpressionLine.ByteExpression w) (a, u, p) = (a ∷ [], ap security p ∙ both-ok _, λ h. one-below u)
+  operands-from i j e (ExpressionLine.CheckSigExpression w) (f, u, p) = ([], ap security p, λ h. absurd (omega arith))
+
+  pub operands-are : {i j : ℕ} {e : Expression} {x : ExpressionLine} → SpellsExpression L s i e j → L i ≡ Line.Expression x → Operands x i e j
+  operands-are {i} {j} {e} {x} sp l = operands-from i j e x (expression-is sp l)
+
+  -- what is due after the line of the first, which passed: its operands too
+  due-more : (es : List Expression) {n i j d : ℕ} {x : ExpressionLine} → Due L s n i es j → 0 < n → L i ≡ Line.Expression x → overflow s x ≡ Ok → expressionPart x ≡ expressionKind → d ≡ n - 1 + countOf (Line.Expression x) → (fs : List Expression) × Due L s d (i + 1) fs j × (securityAll es ≡ securityAll fs)
+  due-more es v h l ok o c =
       let (a, fs, k, u, w, p) = due-first es v h in
-      let (gs, z, q) = due-below o (i + 1) a fs (operands-are L s u l refl ok e) w g c in
-      (gs, z, p ∙ q)
+      let (gs, q, z) = operands-are u l in
+      (gs ++ fs, rw add-one (counted L s (due-before gs fs (z o) w) (omega arith)), p ∙ ap (λ c. both c (securityAll fs)) (q ∙ ap (λ c. both c (securityAll gs)) ok) ∙ all-before gs fs)
+
+  -- after a signature check: the others, from the row after its factor
+  due-signed : (es : List Expression) {n i j r : ℕ} {w : Location} → Due L s n i es j → 0 < n → L i ≡ Line.Expression (ExpressionLine.CheckSigExpression w) → ((f : Factor) (k : ℕ) → SpellsFactor L s (i + 1) f k → r ≡ k) → (fs : List Expression) × Due L s (n - 1) r fs j × (securityAll es ≡ securityAll fs)
+  unfolding security
+  due-signed es {n = n} v h l g =
+      let (a, fs, k, u, w, p) = due-first es v h in
+      let (f, y, q) = expression-is u l in
+      (fs, at-row (SpellsNodes L s (n - 1)) (g f k (rw add-one y)) w, p ∙ ap (λ e. both (security e) (securityAll fs)) q)
+
+-- below a line that is no signature check stand expressions
+pub entered : (x : ExpressionLine) → OneOf (0 ∷ 1 ∷ 2 ∷ 3 ∷ 4 ∷ 5 ∷ 6 ∷ 7 ∷ 8 ∷ 9 ∷ []) (tagOf the-type x) → expressionPart x ≡ expressionKind
+entered (ExpressionLine.Variable w x) h = refl
+entered (ExpressionLine.NumberLiteral w v) h = refl
+entered (ExpressionLine.BooleanLiteral w b) h = refl
+entered (ExpressionLine.StringLiteral w x m) h = refl
+entered (ExpressionLine.LogicalExpression w o) h = refl
+entered (ExpressionLine.CompareExpression w o) h = refl
+entered (ExpressionLine.BinaryMathExpression w o) h = refl
+entered (ExpressionLine.UnaryMathExpression w o) h = refl
+entered (ExpressionLine.UnaryCryptoExpression w o) h = refl
+entered (ExpressionLine.ByteExpression w) h = refl
+entered (ExpressionLine.CheckSigExpression w) h = absurd (miss (0 ∷ 1 ∷ 2 ∷ 3 ∷ 4 ∷ 5 ∷ 6 ∷ 7 ∷ 8 ∷ 9 ∷ []) 10 tt h)
 
 -- the loop over the expression at row i: n are due from row m on
 pub record Rest (s t : List ℕ) (i m n : ℕ) : Type 0 where
@@ -105,6 +149,19 @@ module _ {s t : List ℕ} {i m n : ℕ} (r : Rest s t i m n) where
   pub rest-few : n ≤ maxLines
   rest-few = let st = r .stands in omega (arith, nodes-many (lineIn t) s (st .spells), st .within, st .rows .few)
 
+  -- a step to the row k, with d due there, that leaves the answer as it is
+  rest-step : {k d : ℕ} → ((es : List Expression) (j : ℕ) → Due (lineIn t) s n m es j → (fs : List Expression) × Due (lineIn t) s d k fs j × (securityAll es ≡ securityAll fs)) → Rest s t i k d
+  rest-step {k} {d} f =
+      let st = r .stands in
+      let (fs, v, q) = f (st .tree) (st .next) (st .spells) in
+      record {
+        stands = below (Due (lineIn t) s d) st {b = fs} v (omega arith);
+        same = λ a j sp.
+            let (es, u, p) = r .same a j sp in
+            let (fs, v, q) = f es j u in
+            (fs, v, p ∙ q);
+      }
+
   module _ (h : 0 < n) where
     -- the expression at hand
     pub rest-first : ExpressionAt s t m
@@ -118,21 +175,19 @@ module _ {s t : List ℕ} {i m n : ℕ} (r : Rest s t i m n) where
       rest-fault y e j sp =
           let (es, v, q) = r .same e j sp in
           let (a, fs, k, u, w, p) = due-first (lineIn t) s es v h in
-          walked-err j (q ∙ p ∙ rw (node-fault (lineIn t) s (operandsOf x) (m + 1) a k (operands-are (lineIn t) s u l refl y refl)))
+          let (gs, o, z) = operands-are (lineIn t) s u l in
+          walked-err j (q ∙ p ∙ ap (λ c. both c (securityAll fs)) (o ∙ ap (λ c. both c (securityAll gs)) y))
 
-      module _ (ok : overflow s x ≡ Ok) where
-        -- the factor below a signature check
-        pub rest-factor : operandsOf x ≡ Signatures → FactorAt s t (m + 1)
-        rest-factor o = let st = rest-first in let (f, u, q) = operands-are (lineIn t) s (st .spells) l refl ok o in below (SpellsFactor (lineIn t) s) st u (omega arith)
+      pub rest-more : {d : ℕ} → overflow s x ≡ Ok → expressionPart x ≡ expressionKind → d ≡ n - 1 + countOf (Line.Expression x) → Rest s t i (m + 1) d
+      rest-more ok o c = rest-step (λ es j v. due-more (lineIn t) s es v h l ok o c)
 
-        pub rest-more : {o : Operands} {k d : ℕ} → operandsOf x ≡ o → GoesOn (lineIn t) s o (m + 1) k → d ≡ expressionCount o + (n - 1) → Rest s t i k d
-        rest-more {o} {k} {d} e g c =
-            let st = r .stands in
-            let (fs, v, q) = due-more (lineIn t) s (st .tree) (st .spells) h l ok e g c in
-            record {
-              stands = below (Due (lineIn t) s d) st {b = fs} v (omega arith);
-              same = λ a j sp.
-                  let (es, u, p) = r .same a j sp in
-                  let (fs, v, q) = due-more (lineIn t) s es u h l ok e g c in
-                  (fs, v, p ∙ q);
-            }
+    module _ {w : Location} (l : lineIn t m ≡ Line.Expression (ExpressionLine.CheckSigExpression w)) where
+      -- the factor below a signature check
+      pub rest-factor : FactorAt s t (m + 1)
+      rest-factor =
+          let (f, u, q) = expression-is (rest-first .spells) l in
+          let v : SpellsFactor (lineIn t) s (m + 1) f (rest-first .next) = rw add-one u in
+          below (SpellsFactor (lineIn t) s) rest-first v (omega arith)
+
+      pub rest-signed : {k : ℕ} → ((f : Factor) (j : ℕ) → SpellsFactor (lineIn t) s (m + 1) f j → k ≡ j) → Rest s t i k (n - 1)
+      rest-signed g = rest-step (λ es j v. due-signed (lineIn t) s es v h l g)

@@ -13,22 +13,6 @@ use Rattle.listing.specs.declared.Line.{Line}
 use Rattle.listing.specs.Kinds.{partOf}
 use Rattle.rules.specs.Keys.{pushed}
 use Rattle.rules.specs.Limits.{or21, fourBytes, element}
-use Rattle.limits.specs.declared.Operands.{Operands}
-use Rattle.limits.specs.declared.Operands.the-variants.{Nothing, One, Two, Signatures}
-
--- what follows a line of an expression
-abbrev pub operandsOf : ExpressionLine → Operands
-operandsOf (ExpressionLine.Variable w x) = Nothing
-operandsOf (ExpressionLine.NumberLiteral w v) = Nothing
-operandsOf (ExpressionLine.BooleanLiteral w b) = Nothing
-operandsOf (ExpressionLine.StringLiteral w x m) = Nothing
-operandsOf (ExpressionLine.LogicalExpression w o) = Two
-operandsOf (ExpressionLine.CompareExpression w o) = Two
-operandsOf (ExpressionLine.BinaryMathExpression w o) = Two
-operandsOf (ExpressionLine.UnaryMathExpression w o) = One
-operandsOf (ExpressionLine.UnaryCryptoExpression w o) = One
-operandsOf (ExpressionLine.ByteExpression w) = One
-operandsOf (ExpressionLine.CheckSigExpression w) = Signatures
 
 -- check_overflow: the bound of a number, or of a literal of the listing s
 abbrev pub overflow : List ℕ → ExpressionLine → Checked

@@ -1,16 +1,12 @@
 // Bounds on numbers, literals and waits: 21.
 ghost use mathlib.Core.Path.{_≡_};
-ghost use mathlib.Core.List.{List};
-ghost use Prim.Native.Nat.{ℕ, _+_, _*_, _≤_};
-ghost use lib.ListN.{length};
-ghost use Rattle.ast.specs.Tree.{Expression, Factor};
+ghost use Prim.Native.Nat.{ℕ};
+ghost use Rattle.ast.specs.Tree.{Expression};
 ghost use Rattle.rows.specs.Rows.{lineIn};
-ghost use Rattle.reader.specs.Spells.{SpellsExpression, SpellsFactor};
+ghost use Rattle.reader.specs.Spells.{SpellsExpression};
 ghost use Rattle.rules.specs.Limits.{or21, upTo, wait, security};
-ghost use Rattle.nodes.specs.Stands.{walked, ExpressionAt, FactorAt};
-ghost use Rattle.limits.specs.Lines.{operandsOf, overflow, PartWithin};
-ghost use Rattle.limits.specs.Nodes.{Node, SpellsNodes, NodesAt, partsBelow};
-ghost use Rattle.limits.specs.Somewhere.{Somewhere};
+ghost use Rattle.nodes.specs.Stands.{walked, ExpressionAt};
+ghost use Rattle.limits.specs.Lines.{overflow, PartWithin};
 use ast::Checked;
 use ast::CompileError;
 use ast::ErrorKind;
@@ -20,7 +16,8 @@ use ast::Signed;
 use listing::ExpressionLine;
 use nodes::Answer;
 use nodes::expression_at;
-use rows::row_in;
+use nodes::operand_count;
+use nodes::skip_factor;
 
 pub mod literals; // literals.rt: the length of a literal
 
@@ -34,32 +31,6 @@ const MAX_ELEMENT: usize = 520;
 const MAX_OLDER: u64 = 65535;
 
 const MAX_AFTER: u64 = 4294967295;
-
-// What follows a line of an expression.
-pub enum Operands {
-    Nothing,
-    One,
-    Two,
-    Signatures,
-}
-
-pub fn operands_of(e: ExpressionLine) -> Operands
-    ensures { λ r. ⌜ r ≡ operandsOf e ⌝ }
-{
-    match e {
-        ExpressionLine::Variable(_, _) => Operands::Nothing,
-        ExpressionLine::NumberLiteral(_, _) => Operands::Nothing,
-        ExpressionLine::BooleanLiteral(_, _) => Operands::Nothing,
-        ExpressionLine::StringLiteral(_, _, _) => Operands::Nothing,
-        ExpressionLine::LogicalExpression(_, _) => Operands::Two,
-        ExpressionLine::CompareExpression(_, _) => Operands::Two,
-        ExpressionLine::BinaryMathExpression(_, _) => Operands::Two,
-        ExpressionLine::UnaryMathExpression(_, _) => Operands::One,
-        ExpressionLine::UnaryCryptoExpression(_, _) => Operands::One,
-        ExpressionLine::ByteExpression(_) => Operands::One,
-        ExpressionLine::CheckSigExpression(_) => Operands::Signatures,
-    }
-}
 
 // A bound that is kept, or else 21.
 fn bounded(loc: Location, kept: bool) -> Checked
@@ -116,57 +87,6 @@ pub fn check_wait(loc: Location, op: LocktimeOp, v: Signed) -> Checked
     }
 }
 
-// How many expressions and factors stand directly below the line of row i.
-pub fn parts_below(table: &[u32], i: usize) -> u32
-    requires { ⌜ i * 9 + 9 ≤ length (now table) ⌝ }
-    ensures { λ r. ⌜ r ≡ partsBelow (lineIn (now (table .entry)) i) ⌝ }
-{
-    let r = row_in(table, i);
-    let kind = r.kind;
-    match kind {
-        108 => 2,
-        99 => 2,
-        109 => 2,
-        117 => 1,
-        104 => 1,
-        122 => 1,
-        103 => 1,
-        83 => 2,
-        77 => r.b,
-        _ => 0,
-    }
-}
-
-// The row after n nodes, expressions or factors, one after the other. What stands below a line is counted among what is still due.
-fn skip_nodes(table: &[u32], i: usize, n: u32) -> usize
-    requires { ⌜ Somewhere (λ s. NodesAt s (now table) n i) ⌝ }
-    ensures { λ r. ⌜ ((s : List ℕ) (ns : List Node) (j : ℕ) → SpellsNodes (lineIn (now (table .entry))) s n i ns j → r ≡ j) ⌝ }
-{
-    let mut next = i;
-    let mut due = n;
-    while 0 < due {
-        due = due - 1 + parts_below(table, next);
-        next += 1;
-    }
-    next
-}
-
-// The row after an expression, whatever it says.
-pub fn skip_expression(table: &[u32], i: usize) -> usize
-    requires { ⌜ Somewhere (λ s. ExpressionAt s (now table) i) ⌝ }
-    ensures { λ r. ⌜ ((s : List ℕ) (e : Expression) (j : ℕ) → SpellsExpression (lineIn (now (table .entry))) s i e j → r ≡ j) ⌝ }
-{
-    skip_nodes(table, i, 1)
-}
-
-// The row after a factor.
-pub fn skip_factor(table: &[u32], i: usize) -> usize
-    requires { ⌜ Somewhere (λ s. FactorAt s (now table) i) ⌝ }
-    ensures { λ r. ⌜ ((s : List ℕ) (f : Factor) (j : ℕ) → SpellsFactor (lineIn (now (table .entry))) s i f j → r ≡ j) ⌝ }
-{
-    skip_nodes(table, i, 1)
-}
-
 // An expression: the node, then its operands, left first; signature checks are not entered. What stands below a line is counted among what is still due.
 pub fn check_security(listing: &[u8], table: &[u32], i: usize) -> Answer
     requires { ⌜ ExpressionAt (now listing) (now table) i ⌝ }
@@ -180,16 +100,11 @@ pub fn check_security(listing: &[u8], table: &[u32], i: usize) -> Answer
         if let Checked::Err(x) = c {
             return Answer::Fault(x);
         }
-        let operands = operands_of(line);
+        due -= 1;
         next += 1;
-        match operands {
-            Operands::Nothing => due -= 1,
-            Operands::One => {}
-            Operands::Two => due += 1,
-            Operands::Signatures => {
-                due -= 1;
-                next = skip_factor(table, next);
-            }
+        match line {
+            ExpressionLine::CheckSigExpression(_) => next = skip_factor(table, next),
+            _ => due += operand_count(line),
         }
     }
     Answer::Pass(next)

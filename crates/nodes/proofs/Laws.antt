@@ -1,16 +1,14 @@
 -- What a tree that stands in a table says of its first row, and of the trees below it.
-use Prim.Native.Nat.{ℕ, suc, _+_, _*_, _≤_, _<_}
-use native.Mathlib.Numerals.{add-one}
+use Prim.Native.Nat.{ℕ, suc, _+_, _≤_, _<_}
 use native.Mathlib.Omega.{arith}
-use mathlib.Core.Bool.{Bool, true, false}
 use mathlib.Core.List.{List}
-use mathlib.Core.Option.{Option, some, none}
+use mathlib.Core.Option.{Option, some}
 use mathlib.Core.Path.{_≡_, refl, sym, ap, _∙_, subst}
 use lib.ListN.{length}
 use Rattle.ast.specs.declared.CompileError.{CompileError}
 use Rattle.ast.specs.declared.Checked.{Checked}
 use Rattle.ast.specs.declared.Checked.the-variants.{Ok, Err}
-use Rattle.ast.specs.Tree.{Expression, Factor, Factors, Statement, Block}
+use Rattle.ast.specs.Tree.{Expression, Factor, Statement, Block}
 use Rattle.text.specs.declared.Place.{Place}
 use Rattle.listing.specs.declared.StatementLine.{StatementLine}
 use Rattle.listing.specs.declared.ExpressionLine.{ExpressionLine}
@@ -21,15 +19,11 @@ use Rattle.rows.specs.Rows.{rowIn, kept, keptAs, lineOf, lineIn}
 use Rattle.rows.specs.declared.Words.{Words}
 use Rattle.rows.proofs.Laws.{kept-in}
 use Rattle.rows.proofs.Forms.{If}
-use Rattle.reader.specs.Spells.{SpellsExpression, SpellsFactor, SpellsFactors, SpellsStatement, SpellsBlock, SpellsStatements}
+use Rattle.reader.specs.Spells.{SpellsExpression, SpellsFactor, SpellsStatement, SpellsBlock, SpellsStatements}
 use Rattle.reader.proofs.Inversion.{Begun, ExpressionFrom, expression-from, FactorFrom, factor-from, StatementFrom, statement-from}
-use Rattle.reader.proofs.Agree.{expression-on, factor-on, factors-on, statement-on, block-on, statements-on}
+use Rattle.reader.proofs.Agree.{expression-on, factor-on, statement-on, block-on}
 use Rattle.nodes.specs.declared.Answer.the-variants.{Pass, Fault}
-use Rattle.nodes.specs.Stands.{walked, Stands, ExpressionAt, FactorAt, FactorsAt, StatementAt, BlockAt, StatementsAt, Holds}
-
--- a row that holds a line of one kind holds none of another
-pub other-line : {X : Type 0} {make : X → Line} {t : List ℕ} {i : ℕ} {l k : Line} {P : Type 0} → Holds make t i → l ≡ lineIn t i → l ≡ k → ((x : X) → make x ≡ k → ⊥) → P
-other-line h e q apart = absurd (apart (h .held) (sym (h .is) ∙ sym e ∙ q))
+use Rattle.nodes.specs.Stands.{walked, Stands, ExpressionAt, FactorAt, StatementAt, BlockAt, Holds}
 
 -- the line of a row whose letter is known
 pub line-by : (t : List ℕ) (i : ℕ) (k : ℕ) {r : Words} {x : Line} → r ≡ rowIn t i → r .kind ≡ k → x ≡ keptAs kept k r → lineIn t i ≡ x
@@ -46,10 +40,6 @@ line-of pick t i {r = r} {x = x} e h all p =
 -- a tree below one that stands
 pub below : {A B : Type 0} {R : ℕ → A → ℕ → Type 0} (Q : ℕ → B → ℕ → Type 0) {s t : List ℕ} {i : ℕ} (st : Stands R s t i) {k m : ℕ} {b : B} → Q k b m → m ≤ st .next → Stands Q s t k
 below Q st {k} {m} {b} q h = record { tree = b; next = m; spells = q; count = st .count; within = omega (arith, st .within); rows = st .rows }
-
--- there is room for the first row of a tree
-row-room : {A : Type 0} {R : ℕ → A → ℕ → Type 0} {s t : List ℕ} {i : ℕ} (st : Stands R s t i) → i < st .next → i * 9 + 9 ≤ length t
-row-room st h = omega (arith, st .within, st .rows .room)
 
 -- the part that the first row of a tree names lies in the listing
 pub row-part : {A : Type 0} {R : ℕ → A → ℕ → Type 0} {s t : List ℕ} {i : ℕ} (st : Stands R s t i) → i < st .next → (l : Line) → lineIn t i ≡ l → (x : Place) → partOf l ≡ some x → x .at + x .len ≤ length s
@@ -71,56 +61,63 @@ module _ {L : ℕ → Line} {s : List ℕ} {i j : ℕ} where
 
 -- the first row of a tree that stands
 module _ {s t : List ℕ} {i : ℕ} where
-  pub expression-holds : ExpressionAt s t i → Holds Line.Expression t i
-  expression-holds st = line (st .spells)
-    where
-      room : i * 9 + 9 ≤ length t
-      room = row-room st (expression-on (lineIn t) s (st .spells))
+  first-row : {A X : Type 0} {R : ℕ → A → ℕ → Type 0} {make : X → Line} (st : Stands R s t i) → i < st .next → (x : X) × (lineIn t i ≡ make x) → Holds make t i
+  first-row st h (x, q) = record { held = x; is = q; room = omega (arith, st .within, st .rows .room) }
 
-      line : {e : Expression} {j : ℕ} → SpellsExpression (lineIn t) s i e j → Holds Line.Expression t i
-      line (SpellsExpression.variable q r) = record { held = _; is = q; room = room }
-      line (SpellsExpression.number q) = record { held = _; is = q; room = room }
-      line (SpellsExpression.boolean q) = record { held = _; is = q; room = room }
-      line (SpellsExpression.string q r) = record { held = _; is = q; room = room }
-      line (SpellsExpression.logical q u v) = record { held = _; is = q; room = room }
-      line (SpellsExpression.compare q u v) = record { held = _; is = q; room = room }
-      line (SpellsExpression.arithmetic q u v) = record { held = _; is = q; room = room }
-      line (SpellsExpression.unary q u) = record { held = _; is = q; room = room }
-      line (SpellsExpression.hash q u) = record { held = _; is = q; room = room }
-      line (SpellsExpression.size q u) = record { held = _; is = q; room = room }
-      line (SpellsExpression.checkSig q u) = record { held = _; is = q; room = room }
+  pub expression-holds : ExpressionAt s t i → Holds Line.Expression t i
+  expression-holds st = first-row st (expression-on (lineIn t) s (st .spells)) (line (st .spells))
+    where
+      line : {e : Expression} {j : ℕ} → SpellsExpression (lineIn t) s i e j → (x : ExpressionLine) × (lineIn t i ≡ Line.Expression x)
+      line (SpellsExpression.variable q r) = (_, q)
+      line (SpellsExpression.number q) = (_, q)
+      line (SpellsExpression.boolean q) = (_, q)
+      line (SpellsExpression.string q r) = (_, q)
+      line (SpellsExpression.logical q u v) = (_, q)
+      line (SpellsExpression.compare q u v) = (_, q)
+      line (SpellsExpression.arithmetic q u v) = (_, q)
+      line (SpellsExpression.unary q u) = (_, q)
+      line (SpellsExpression.hash q u) = (_, q)
+      line (SpellsExpression.size q u) = (_, q)
+      line (SpellsExpression.checkSig q u) = (_, q)
 
   pub factor-holds : FactorAt s t i → Holds Line.Factor t i
-  factor-holds st = line (st .spells)
+  factor-holds st = first-row st (factor-on (lineIn t) s (st .spells)) (line (st .spells))
     where
-      room : i * 9 + 9 ≤ length t
-      room = row-room st (factor-on (lineIn t) s (st .spells))
-
-      line : {e : Factor} {j : ℕ} → SpellsFactor (lineIn t) s i e j → Holds Line.Factor t i
-      line (SpellsFactor.single q u v) = record { held = _; is = q; room = room }
-      line (SpellsFactor.multi q u) = record { held = _; is = q; room = room }
+      line : {e : Factor} {j : ℕ} → SpellsFactor (lineIn t) s i e j → (x : FactorLine) × (lineIn t i ≡ Line.Factor x)
+      line (SpellsFactor.single q u v) = (_, q)
+      line (SpellsFactor.multi q u) = (_, q)
 
   pub statement-holds : StatementAt s t i → Holds Line.Statement t i
-  statement-holds st = line (st .spells)
+  statement-holds st = first-row st (statement-on (lineIn t) s (st .spells)) (line (st .spells))
     where
-      room : i * 9 + 9 ≤ length t
-      room = row-room st (statement-on (lineIn t) s (st .spells))
-
-      line : {e : Statement} {j : ℕ} → SpellsStatement (lineIn t) s i e j → Holds Line.Statement t i
-      line (SpellsStatement.ifOnly q u v) = record { held = _; is = q; room = room }
-      line (SpellsStatement.ifElse q u v w) = record { held = _; is = q; room = room }
-      line (SpellsStatement.wait q) = record { held = _; is = q; room = room }
-      line (SpellsStatement.verify q u) = record { held = _; is = q; room = room }
-      line (SpellsStatement.return q u) = record { held = _; is = q; room = room }
+      line : {e : Statement} {j : ℕ} → SpellsStatement (lineIn t) s i e j → (x : StatementLine) × (lineIn t i ≡ Line.Statement x)
+      line (SpellsStatement.ifOnly q u v) = (_, q)
+      line (SpellsStatement.ifElse q u v w) = (_, q)
+      line (SpellsStatement.wait q) = (_, q)
+      line (SpellsStatement.verify q u) = (_, q)
+      line (SpellsStatement.return q u) = (_, q)
 
   pub block-holds : BlockAt s t i → Holds Line.Block t i
-  block-holds st = line (st .spells)
+  block-holds st = first-row st (block-on (lineIn t) s (st .spells)) (line (st .spells))
     where
-      room : i * 9 + 9 ≤ length t
-      room = row-room st (block-on (lineIn t) s (st .spells))
+      line : {e : Block} {j : ℕ} → SpellsBlock (lineIn t) s i e j → (n : ℕ) × (lineIn t i ≡ Line.Block n)
+      line (SpellsBlock.block q u) = (_, q)
 
-      line : {e : Block} {j : ℕ} → SpellsBlock (lineIn t) s i e j → Holds Line.Block t i
-      line (SpellsBlock.block q u) = record { held = _; is = q; room = room }
+-- what stands at the row to which a walk came
+pub at-row : {B : Type 0} (Q : ℕ → B → ℕ → Type 0) {k m n : ℕ} {b : B} → n ≡ k → Q k b m → Q n b m
+at-row Q {m = m} {b = b} e q = subst (λ n. Q n b m) (sym e) q
+
+pub stands-at : {A B : Type 0} {R : ℕ → A → ℕ → Type 0} (Q : ℕ → B → ℕ → Type 0) {s t : List ℕ} {i : ℕ} (st : Stands R s t i) {k m n : ℕ} {b : B} → n ≡ k → Q k b m → m ≤ st .next → Stands Q s t n
+stands-at Q st e q h = below Q st (at-row Q e q) h
+
+-- the answer of a walk whose check passed, and of one whose check did not
+pub walked-ok : {c : Checked} {n j : ℕ} → c ≡ Ok → n ≡ j → Pass n ≡ walked c j
+unfolding walked
+walked-ok q e = rw (q, e)
+
+pub walked-err : {c : Checked} {x : CompileError} (j : ℕ) → c ≡ Err x → Fault x ≡ walked c j
+unfolding walked
+walked-err j q = rw q
 
 -- what a walk's answer says of the check
 pub walked-pass : (c : Checked) (j : ℕ) {n : ℕ} → walked c j ≡ Pass n → (c ≡ Ok) × (j ≡ n)

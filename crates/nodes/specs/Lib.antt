@@ -1,1 +1,3 @@
 pub mod Stands
+pub mod Somewhere
+pub mod Nodes

@@ -1,19 +1,15 @@
 -- Trees that stand in a table of rows, and what a walk over one answers.
-use Prim.Native.Nat.{ℕ, _+_, _*_, _≤_, _<_}
+use Prim.Native.Nat.{ℕ, _+_, _≤_, _<_}
 use mathlib.Core.List.{List}
 use mathlib.Core.Option.{some}
 use mathlib.Core.Path.{_≡_}
 use lib.ListN.{length}
 use Rattle.ast.specs.declared.Checked.{Checked}
 use Rattle.ast.specs.declared.Checked.the-variants.{Ok, Err}
-use Rattle.ast.specs.Tree.{Expression, Factor, Factors, Statement, Block}
 use Rattle.text.specs.declared.Place.{Place}
-use Rattle.listing.specs.declared.StatementLine.{StatementLine}
-use Rattle.listing.specs.declared.ExpressionLine.{ExpressionLine}
-use Rattle.listing.specs.declared.FactorLine.{FactorLine}
 use Rattle.listing.specs.declared.Line.{Line}
 use Rattle.listing.specs.Kinds.{partOf}
-use Rattle.rows.specs.Rows.{lineIn}
+use Rattle.rows.specs.Rows.{lineIn, HasRow, HasRows}
 use Rattle.reader.specs.Ceilings.{maxBytes, maxLines}
 use Rattle.reader.specs.Spells.{SpellsExpression, SpellsFactor, SpellsFactors, SpellsStatement, SpellsBlock, SpellsStatements}
 use Rattle.nodes.specs.declared.Answer.{Answer}
@@ -23,7 +19,7 @@ use Rattle.nodes.specs.declared.Answer.the-variants.{Pass, Fault}
 pub record Rows (s t : List ℕ) (n : ℕ) : Type 0 where
   pub short : length s ≤ maxBytes
   pub few : n ≤ maxLines
-  pub room : n * 9 ≤ length t
+  pub room : HasRows t n
   pub parts : (k : ℕ) → k < n → (x : Place) → partOf (lineIn t k) ≡ some x → x .at + x .len ≤ length s
 
 -- a tree stands at row i; `R i e j`: the rows from i up to j spell e
@@ -59,7 +55,7 @@ StatementsAt s t n i = Stands (SpellsStatements (lineIn t) s n) s t i
 pub record Holds {X : Type 0} (make : X → Line) (t : List ℕ) (i : ℕ) : Type 0 where
   pub held : X
   pub is : lineIn t i ≡ make held
-  pub room : i * 9 + 9 ≤ length t
+  pub room : HasRow t i
 
 -- a check that ends before row j, as a walk answers it: the next row, or the fault
 unfoldable pub walked : Checked → ℕ → Answer

@@ -1,12 +1,17 @@
 // The nodes of a contract as rows of a table: what a walk over them needs.
 ghost use mathlib.Core.Path.{_≡_};
+ghost use mathlib.Core.List.{List};
+ghost use Prim.Native.Nat.{ℕ, _≤_};
 ghost use Rattle.listing.specs.declared.Line.{Line};
-ghost use Rattle.ast.specs.Tree.{fault};
-ghost use Rattle.ast.specs.declared.Target.{Target};
-ghost use Rattle.rows.specs.Rows.{lineIn};
+ghost use Rattle.ast.specs.Tree.{Expression, Factor, Statement, Block, fault};
+ghost use Rattle.rows.specs.Rows.{lineOf, lineIn, HasRow};
+ghost use Rattle.reader.specs.Parts.{factorKind, kindOf, countOf};
+ghost use Rattle.reader.specs.Spells.{SpellsExpression, SpellsFactor, SpellsStatement, SpellsStatements};
 ghost use Rattle.nodes.specs.declared.Answer.{Answer};
 ghost use Rattle.nodes.specs.declared.Head.{Head};
-ghost use Rattle.nodes.specs.Stands.{Holds, walked};
+ghost use Rattle.nodes.specs.Stands.{Holds, ExpressionAt, FactorAt, StatementAt, StatementsAt};
+ghost use Rattle.nodes.specs.Somewhere.{Somewhere};
+ghost use Rattle.nodes.specs.Nodes.{Spans, Spanned};
 use ast::CompileError;
 use ast::ErrorKind;
 use ast::Location;
@@ -14,13 +19,16 @@ use ast::Target;
 use ast::numbers;
 use listing::ExpressionLine;
 use listing::FactorLine;
-use listing::Line;
 use listing::StatementLine;
+use listing::letters;
+use rows::Words;
 use rows::part_in;
 use rows::place_in;
-use rows::row;
 use rows::row_in;
 use rows::signed_in;
+
+// The row of the first declaration: right after the T line.
+pub const FIRST_DECLARATION: u32 = 1;
 
 // What a walk over a node answers: the row after it, or the first fault.
 pub enum Answer {
@@ -41,16 +49,6 @@ pub fn refuse(kind: ErrorKind, loc: Location) -> Answer
     Answer::Fault(CompileError { loc, kind })
 }
 
-// What stands where there is no T line.
-fn no_head() -> Head
-    ensures { λ r. ⌜ r ≡ record { target = Target.Legacy; declarations = 0 } ⌝ }
-{
-    Head {
-        target: Target::Legacy,
-        declarations: 0,
-    }
-}
-
 // The line of an expression.
 pub fn expression_at(table: &[u32], i: usize) -> ExpressionLine
     requires { ⌜ Holds Line.Expression (now table) i ⌝ }
@@ -60,16 +58,16 @@ pub fn expression_at(table: &[u32], i: usize) -> ExpressionLine
     let loc = place_in(r);
     let kind = r.kind;
     match kind {
-        118 => ExpressionLine::Variable(loc, part_in(r)),
-        110 => ExpressionLine::NumberLiteral(loc, signed_in(r)),
-        98 => ExpressionLine::BooleanLiteral(loc, r.a == 1),
-        115 => ExpressionLine::StringLiteral(loc, part_in(r), r.c == 1),
-        108 => ExpressionLine::LogicalExpression(loc, numbers::logical_from(r.a)),
-        99 => ExpressionLine::CompareExpression(loc, numbers::compare_from(r.a)),
-        109 => ExpressionLine::BinaryMathExpression(loc, numbers::math_from(r.a)),
-        117 => ExpressionLine::UnaryMathExpression(loc, numbers::unary_from(r.a)),
-        104 => ExpressionLine::UnaryCryptoExpression(loc, numbers::crypto_from(r.a)),
-        103 => ExpressionLine::CheckSigExpression(loc),
+        letters::VARIABLE => ExpressionLine::Variable(loc, part_in(r)),
+        letters::NUMBER => ExpressionLine::NumberLiteral(loc, signed_in(r)),
+        letters::BOOLEAN => ExpressionLine::BooleanLiteral(loc, r.a == 1),
+        letters::LITERAL => ExpressionLine::StringLiteral(loc, part_in(r), r.c == 1),
+        letters::LOGIC => ExpressionLine::LogicalExpression(loc, numbers::logical_from(r.a)),
+        letters::COMPARE => ExpressionLine::CompareExpression(loc, numbers::compare_from(r.a)),
+        letters::ARITHMETIC => ExpressionLine::BinaryMathExpression(loc, numbers::math_from(r.a)),
+        letters::UNARY => ExpressionLine::UnaryMathExpression(loc, numbers::unary_from(r.a)),
+        letters::HASH => ExpressionLine::UnaryCryptoExpression(loc, numbers::crypto_from(r.a)),
+        letters::SIGNATURES => ExpressionLine::CheckSigExpression(loc),
         _ => ExpressionLine::ByteExpression(loc),
     }
 }
@@ -83,7 +81,7 @@ pub fn factor_at(table: &[u32], i: usize) -> FactorLine
     let loc = place_in(r);
     let kind = r.kind;
     match kind {
-        77 => FactorLine::MultiSigFactor(loc, r.a, r.b),
+        letters::MULTI => FactorLine::MultiSigFactor(loc, r.a, r.b),
         _ => FactorLine::SingleSigFactor(loc),
     }
 }
@@ -97,9 +95,13 @@ pub fn statement_at(table: &[u32], i: usize) -> StatementLine
     let loc = place_in(r);
     let kind = r.kind;
     match kind {
-        73 => StatementLine::IfStatement(loc, r.a == 1),
-        76 => StatementLine::LocktimeStatement(loc, numbers::locktime_from(r.a), signed_in(r)),
-        86 => StatementLine::VerifyStatement(loc),
+        letters::IF => StatementLine::IfStatement(loc, r.a == 1),
+        letters::WAIT => StatementLine::LocktimeStatement(
+            loc,
+            numbers::locktime_from(r.a),
+            signed_in(r),
+        ),
+        letters::VERIFY => StatementLine::VerifyStatement(loc),
         _ => StatementLine::ExpressionStatement(loc),
     }
 }
@@ -112,7 +114,7 @@ pub fn block_at(table: &[u32], i: usize) -> u32
     let r = row_in(table, i);
     let kind = r.kind;
     match kind {
-        66 => r.a,
+        letters::BLOCK => r.a,
         _ => 0,
     }
 }
@@ -122,16 +124,8 @@ pub fn declaration_at(table: &[u32], i: usize) -> u32
     requires { ⌜ Holds Line.Declaration (now table) i ⌝ }
     ensures { λ r. ⌜ lineIn (now (table .entry)) i ≡ Line.Declaration r ⌝ }
 {
-    let l = row(table, i);
-    match l {
-        Line::Declaration(n) => n,
-        Line::Contract(_, _) => 0,
-        Line::StackParam(_, _, _) => 0,
-        Line::Block(_) => 0,
-        Line::Statement(_) => 0,
-        Line::Expression(_) => 0,
-        Line::Factor(_) => 0,
-    }
+    let r = row_in(table, i);
+    r.a
 }
 
 // The T line: the target, and how many declarations there are.
@@ -139,17 +133,143 @@ pub fn contract_at(table: &[u32], i: usize) -> Head
     requires { ⌜ Holds (λ (h : Head). Line.Contract (h .target) (h .declarations)) (now table) i ⌝ }
     ensures { λ r. ⌜ lineIn (now (table .entry)) i ≡ Line.Contract (r .target) (r .declarations) ⌝ }
 {
-    let l = row(table, i);
-    match l {
-        Line::Contract(target, declarations) => Head {
-            target,
-            declarations,
-        },
-        Line::Declaration(_) => no_head(),
-        Line::StackParam(_, _, _) => no_head(),
-        Line::Block(_) => no_head(),
-        Line::Statement(_) => no_head(),
-        Line::Expression(_) => no_head(),
-        Line::Factor(_) => no_head(),
+    let r = row_in(table, i);
+    Head {
+        target: numbers::target_from(r.a),
+        declarations: r.b,
     }
+}
+
+// How many operands the line of an expression has; a signature check has its factor.
+pub fn operand_count(line: ExpressionLine) -> u32
+    ensures { λ r. ⌜ r ≡ countOf (Line.Expression line) ⌝ }
+{
+    match line {
+        ExpressionLine::Variable(_, _) => 0,
+        ExpressionLine::NumberLiteral(_, _) => 0,
+        ExpressionLine::BooleanLiteral(_, _) => 0,
+        ExpressionLine::StringLiteral(_, _, _) => 0,
+        ExpressionLine::LogicalExpression(_, _) => 2,
+        ExpressionLine::CompareExpression(_, _) => 2,
+        ExpressionLine::BinaryMathExpression(_, _) => 2,
+        ExpressionLine::UnaryMathExpression(_, _) => 1,
+        ExpressionLine::UnaryCryptoExpression(_, _) => 1,
+        ExpressionLine::ByteExpression(_) => 1,
+        ExpressionLine::CheckSigExpression(_) => 1,
+    }
+}
+
+// How many parts a line with one of the first letters has, those up to I.
+fn early_parts(r: Words) -> u32
+    requires { ⌜ r .kind ≤ 73 ⌝ }
+    ensures { λ n. ⌜ n ≡ countOf (lineOf r) ⌝ }
+{
+    let kind = r.kind;
+    match kind {
+        letters::BLOCK => r.a,
+        letters::DECLARATION => r.a,
+        letters::RETURN => 1,
+        letters::IF => { if r.a == 1 { 3 } else { 2 } }
+        _ => 0,
+    }
+}
+
+// How many parts the line of a row has. With the first letters apart, the others are told from each other by a few tests of bits, which is faster than
+// a jump by a table of all letters.
+fn row_parts(r: Words) -> u32
+    ensures { λ n. ⌜ n ≡ countOf (lineOf r) ⌝ }
+{
+    let kind = r.kind;
+    if kind <= letters::IF {
+        return early_parts(r);
+    }
+    match kind {
+        letters::CONTRACT => r.b,
+        letters::VERIFY => 1,
+        letters::LOGIC => 2,
+        letters::COMPARE => 2,
+        letters::ARITHMETIC => 2,
+        letters::UNARY => 1,
+        letters::HASH => 1,
+        letters::SIZE => 1,
+        letters::SIGNATURES => 1,
+        letters::SINGLE => 2,
+        letters::MULTI => r.b,
+        _ => 0,
+    }
+}
+
+// How many parts the line of row i has: the nodes directly below it.
+pub fn parts_below(table: &[u32], i: usize) -> u32
+    requires { ⌜ HasRow (now table) i ⌝ }
+    ensures { λ r. ⌜ r ≡ countOf (lineIn (now (table .entry)) i) ⌝ }
+{
+    row_parts(row_in(table, i))
+}
+
+// The same of a row that holds an expression or a factor, for a walk that meets no others: fewer letters to tell apart.
+pub fn operands_below(table: &[u32], i: usize) -> u32
+    requires { ⌜ HasRow (now table) i × (kindOf (lineIn (now table) i) ≤ factorKind) ⌝ }
+    ensures { λ r. ⌜ r ≡ countOf (lineIn (now (table .entry)) i) ⌝ }
+{
+    let r = row_in(table, i);
+    let kind = r.kind;
+    match kind {
+        letters::LOGIC => 2,
+        letters::COMPARE => 2,
+        letters::ARITHMETIC => 2,
+        letters::UNARY => 1,
+        letters::HASH => 1,
+        letters::SIZE => 1,
+        letters::SIGNATURES => 1,
+        letters::SINGLE => 2,
+        letters::MULTI => r.b,
+        _ => 0,
+    }
+}
+
+// The row after n nodes of any kind, one after the other. What stands below a line is counted among what is still due.
+fn skip_nodes(table: &[u32], i: usize, n: u32) -> usize
+    requires { ⌜ Spanned (now table) n i ⌝ }
+    ensures { λ r. ⌜ ((j : ℕ) → Spans (lineIn (now (table .entry))) n i j → r ≡ j) ⌝ }
+{
+    let mut next = i;
+    let mut due = n;
+    while 0 < due {
+        due = due - 1 + parts_below(table, next);
+        next += 1;
+    }
+    next
+}
+
+// The row after an expression, whatever it says.
+pub fn skip_expression(table: &[u32], i: usize) -> usize
+    requires { ⌜ Somewhere (λ s. ExpressionAt s (now table) i) ⌝ }
+    ensures { λ r. ⌜ ((s : List ℕ) (e : Expression) (j : ℕ) → SpellsExpression (lineIn (now (table .entry))) s i e j → r ≡ j) ⌝ }
+{
+    skip_nodes(table, i, 1)
+}
+
+// The row after a factor.
+pub fn skip_factor(table: &[u32], i: usize) -> usize
+    requires { ⌜ Somewhere (λ s. FactorAt s (now table) i) ⌝ }
+    ensures { λ r. ⌜ ((s : List ℕ) (f : Factor) (j : ℕ) → SpellsFactor (lineIn (now (table .entry))) s i f j → r ≡ j) ⌝ }
+{
+    skip_nodes(table, i, 1)
+}
+
+// The row after a statement.
+pub fn skip_statement(table: &[u32], i: usize) -> usize
+    requires { ⌜ Somewhere (λ s. StatementAt s (now table) i) ⌝ }
+    ensures { λ r. ⌜ ((s : List ℕ) (t : Statement) (j : ℕ) → SpellsStatement (lineIn (now (table .entry))) s i t j → r ≡ j) ⌝ }
+{
+    skip_nodes(table, i, 1)
+}
+
+// The row after n statements.
+pub fn skip_statements(table: &[u32], i: usize, n: u32) -> usize
+    requires { ⌜ Somewhere (λ s. StatementsAt s (now table) n i) ⌝ }
+    ensures { λ r. ⌜ ((s : List ℕ) (b : Block) (j : ℕ) → SpellsStatements (lineIn (now (table .entry))) s n i b j → r ≡ j) ⌝ }
+{
+    skip_nodes(table, i, n)
 }

@@ -1,18 +1,22 @@
 // Reads each listing of data/listings and prints what reading it answers: its index, the number and the line of the
 // refusal, or 0 and the count of lines. tools/reading_vectors.py writes the listings and what is to be printed.
-ghost use Prim.Native.Nat.{_≤_, _<_};
-ghost use Rattle.io.specs.Counts.{Counts};
 use ast::CompileError;
-use libc::STDOUT_FILENO;
-use reader::ListingRead;
+use reading::ListingRead;
+use records::FILLED;
+use records::Head;
+use records::count_wrong;
+use records::digit;
+use records::print_number;
+use records::read_bytes;
+use records::read_end;
+use records::read_head;
+use records::touched_past;
+use records::wide;
 
-// What work memory holds before a reading. It has 16 words more than are asked.
-const FILLED: u32 = 7;
-
-// A record's head: the listing's length, the number and the line that are due; or the end of the file.
-enum Head {
-    Of(usize, u64, u64),
-    End,
+// The number and the line that are due, which end a record's head.
+struct Due {
+    number: u64,
+    line: u64,
 }
 
 // What a reading gave. The number is 0 and the line the count of lines where the listing was read; the rest is start, end
@@ -30,39 +34,18 @@ struct Tally {
     wrong: u64,
 }
 
-fn wide(x: u32) -> u64 {
-    x as u64
-}
-
-// What a decimal digit stands for: the low half of its byte.
-fn digit(b: u8) -> usize
-    ensures { λ r. ⌜ r < 16 ⌝ }
-{
-    (b % 16) as usize
-}
-
-// Four digits from position `at` on.
-fn four(head: &[u8; 13], at: usize) -> usize
-    requires { ⌜ at ≤ 9 ⌝ }
-    ensures { λ r. ⌜ r < 20000 ⌝ }
-{
-    let a = digit(head[at]);
-    let b = digit(head[at + 1]);
-    let c = digit(head[at + 2]);
-    let d = digit(head[at + 3]);
-    1000 * a + 100 * b + 10 * c + d
-}
-
-// The next head: `size,number,line` in 5, 1 and 4 digits, and byte 10.
-fn read_head(fd: i32) -> Head {
-    let mut head = [0u8; 13];
-    if io::read_full(fd, &mut head) < 13 {
-        return Head::End;
+// The rest of a head after the comma: `number,line` in 1 and 4 digits, and byte 10.
+fn read_due(fd: i32) -> Due {
+    let mut rest = [0u8; 7];
+    io::read_full(fd, &mut rest);
+    let a = digit(rest[2]);
+    let b = digit(rest[3]);
+    let c = digit(rest[4]);
+    let d = digit(rest[5]);
+    Due {
+        number: digit(rest[0]) as u64,
+        line: (1000 * a + 100 * b + 10 * c + d) as u64,
     }
-    let size = 10000 * digit(head[0]) + four(&head, 1);
-    let number = digit(head[6]);
-    let line = four(&head, 8);
-    Head::Of(size, number as u64, line as u64)
 }
 
 fn answer_of(r: ListingRead) -> Answer {
@@ -87,11 +70,6 @@ fn refusal(e: CompileError) -> Answer {
     }
 }
 
-fn print_number(n: u64, after: &[u8]) {
-    io::print_decimal(STDOUT_FILENO, n);
-    io::write_all(STDOUT_FILENO, after);
-}
-
 fn print_answer(index: u64, a: Answer) {
     print_number(index, b",");
     print_number(a.number, b",");
@@ -99,38 +77,23 @@ fn print_answer(index: u64, a: Answer) {
 }
 
 // 1 where the answer is another than the record's, which is then said.
-fn differs(index: u64, a: Answer, number: u64, line: u64) -> u64 {
-    if a.number == number {
-        if a.line == line {
+fn differs(index: u64, a: Answer, due: Due) -> u64 {
+    if a.number == due.number {
+        if a.line == due.line {
             if a.rest == 0 {
                 return 0;
             }
         }
     }
     print_number(index, b" differs: ");
-    print_number(number, b" at 0,0,");
-    print_number(line, b",0 is due\n");
+    print_number(due.number, b" at 0,0,");
+    print_number(due.line, b",0 is due\n");
     1
-}
-
-// How many of the words from `from` on and before `to` are not `due`.
-fn count_wrong(work: &[u32; 16400], from: usize, to: usize, due: u32) -> u64
-    requires { ⌜ to ≤ 16400 ⌝ }
-{
-    let mut wrong: u64 = 0;
-    let mut i = from;
-    while i < to {
-        if work[i] != due {
-            wrong = std::num::wrapping_add_u64(wrong, 1);
-        }
-        i += 1;
-    }
-    wrong
 }
 
 // After a refusal 16384 words are zero; those past them are never touched.
 fn wrong_words(work: &[u32; 16400], number: u64) -> u64 {
-    let past = count_wrong(work, 16384, 16400, FILLED);
+    let past = touched_past(work);
     if number == 0 {
         return past;
     }
@@ -138,11 +101,11 @@ fn wrong_words(work: &[u32; 16400], number: u64) -> u64 {
 }
 
 // A listing is read with work enough.
-fn examine(index: u64, listing: &[u8], number: u64, line: u64, t: Tally) -> Tally {
+fn examine(index: u64, listing: &[u8], due: Due, t: Tally) -> Tally {
     let mut work = [FILLED; 16400];
-    let a = answer_of(reader::read_listing(listing, &mut work));
+    let a = answer_of(reading::read_listing(listing, &mut work));
     print_answer(index, a);
-    let differ = std::num::wrapping_add_u64(t.differ, differs(index, a, number, line));
+    let differ = std::num::wrapping_add_u64(t.differ, differs(index, a, due));
     let wrong = std::num::wrapping_add_u64(t.wrong, wrong_words(&work, a.number));
     Tally {
         listings: std::num::wrapping_add_u64(t.listings, 1),
@@ -154,11 +117,14 @@ fn examine(index: u64, listing: &[u8], number: u64, line: u64, t: Tally) -> Tall
 // With a word too few the answer is 5 at 0,0,0,0, and work is as it was.
 fn examine_short(index: u64, listing: &[u8], t: Tally) -> Tally {
     let mut work = [FILLED; 16400];
-    let a = answer_of(reader::read_listing(listing, &mut work[..16383]));
+    let a = answer_of(reading::read_listing(listing, &mut work[..16383]));
     print_number(index, b" with short work,");
     print_number(a.number, b",");
     print_number(a.line, b"\n");
-    let differ = std::num::wrapping_add_u64(t.differ, differs(index, a, 5, 0));
+    let differ = std::num::wrapping_add_u64(
+        t.differ,
+        differs(index, a, Due { number: 5, line: 0 }),
+    );
     let wrong = std::num::wrapping_add_u64(t.wrong, count_wrong(&work, 0, 16400, FILLED));
     Tally {
         listings: t.listings,
@@ -167,28 +133,18 @@ fn examine_short(index: u64, listing: &[u8], t: Tally) -> Tally {
     }
 }
 
-// The next `size` bytes, at the start of the buffer; none where it is too small.
-fn read_bytes(fd: i32, size: usize, buffer: &mut [u8]) -> usize
-    ensures { λ r. ⌜ Counts r (now (buffer .exit)) ⌝ }
-{
-    if size > buffer.len() {
-        return 0;
-    }
-    io::read_full(fd, &mut buffer[..size])
-}
-
 // One record: its bytes, and the byte 10 after them. The first three are also read with work too short.
-fn examine_record(fd: i32, size: usize, number: u64, line: u64, t: Tally) -> Tally {
+fn examine_record(fd: i32, size: usize, t: Tally) -> Tally {
+    let due = read_due(fd);
     let mut buffer = io::large_buffer();
     let n = read_bytes(fd, size, &mut buffer);
-    let mut end = [0u8; 1];
-    io::read_full(fd, &mut end);
+    read_end(fd);
     let index = t.listings;
     if index < 3 {
         let u = examine_short(index, &buffer[..n], t);
-        return examine(index, &buffer[..n], number, line, u);
+        return examine(index, &buffer[..n], due, u);
     }
-    examine(index, &buffer[..n], number, line, t)
+    examine(index, &buffer[..n], due, t)
 }
 
 // All records. Nothing says that a file ends, so the turns are counted down.
@@ -200,10 +156,10 @@ fn examine_all(fd: i32) -> Tally {
     };
     let mut turns: u32 = 100000;
     while turns > 0 {
-        let Head::Of(size, number, line) = read_head(fd) else {
+        let Head::Of(size) = read_head(fd, b',') else {
             return t;
         };
-        t = examine_record(fd, size, number, line, t);
+        t = examine_record(fd, size, t);
         turns -= 1;
     }
     t

@@ -15,13 +15,13 @@ use Rattle.rows.specs.Rows.{lineIn}
 use Rattle.names.specs.declared.Item.{Item}
 use Rattle.names.specs.Items.{Inside, NamedRow, lineOf, itemOf, itemIn}
 use Rattle.rules.specs.Table.{Table}
-use Rattle.usage.specs.declared.NamePlace.{NamePlace}
-use Rattle.usage.specs.declared.Path.{Path}
-use Rattle.usage.specs.Path.{takenBy, tableFrom, tableOf, WellFormed}
+use Rattle.paths.specs.declared.NamePlace.{NamePlace}
+use Rattle.paths.specs.declared.Path.{Path}
+use Rattle.paths.specs.Path.{takenBy, tableFrom, tableOf, WellFormed}
 use Rattle.output.specs.Decimal.{decimal}
 use Rattle.output.specs.Put.{Room, Wrote}
 use Rattle.output.proofs.Laws.{room-as, wrote-as}
-use Rattle.reporting.specs.Bounds.{refusalBound, nameBound, itemBound, itemsBound, pathBound, pathsBound, acceptanceBound}
+use Rattle.reporting.specs.Bounds.{pair, pairBound, refusalBound, nameBound, itemBound, itemsBound, pathBound, pathsBound, acceptanceBound}
 use Rattle.reader.specs.Ceilings.{maxBytes}
 use Rattle.reporting.specs.Text.{fields, reportLine, taker, itemLine, itemLines, pathLine, pathLines, acceptance, refusal}
 use Rattle.reporting.specs.Taker.{tookOf, lineIf}
@@ -31,19 +31,22 @@ use Rattle.reporting.proofs.Items.{taker-fields}
 pub wrote-under : {w : Bool} {out text other after : List ℕ} {at m n next : ℕ} → text ≡ other → m ≤ n → Wrote w out at text m after next → Wrote w out at other n after next
 wrote-under e h wrote = wrote-as e (let k = wrote .short in omega (arith, ap length e)) wrote
 
--- a field, and what follows
-abbrev pub field : ℕ → List ℕ → List ℕ
-field n rest = (44 ∷ decimal n) ++ rest
+-- two fields, and what follows
+after-pair : (a b : ℕ) (rest : List ℕ) → pair a b ++ rest ≡ 44 ∷ (decimal a ++ (44 ∷ (decimal b ++ rest)))
+after-pair a b rest = append-assoc (44 ∷ decimal a) (44 ∷ decimal b) rest
 
 -- the fields of a location, and the line's end
 abbrev pub located : CompileError → List ℕ
-located x = field (x .loc .start) (field (x .loc .end) (field (x .loc .line) (field (x .loc .column) (10 ∷ []))))
+located x = pair (x .loc .start) (x .loc .end) ++ (pair (x .loc .line) (x .loc .column) ++ (10 ∷ []))
 
 pub refusal-run : (x : CompileError) (n : ℕ) → n ≡ number (x .kind) → (82 ∷ 44 ∷ []) ++ (decimal n ++ located x) ≡ refusal x
 unfolding refusal reportLine fields
-refusal-run x n e = ap (λ n. 82 ∷ 44 ∷ (decimal n ++ located x)) e
+refusal-run x n e =
+    let d = after-pair (x .loc .line) (x .loc .column) (10 ∷ []) in
+    let l = after-pair (x .loc .start) (x .loc .end) (pair (x .loc .line) (x .loc .column) ++ (10 ∷ [])) in
+    rw (e, l, d) refl
 
-pub refusal-room : {w : Bool} {out : List ℕ} {at : ℕ} (x : CompileError) {n : ℕ} → n ≡ number (x .kind) → Room w out at (refusal x) refusalBound → Room w out at ((82 ∷ 44 ∷ []) ++ (decimal n ++ located x)) (2 + (10 + (11 + (11 + (11 + (11 + 1))))))
+pub refusal-room : {w : Bool} {out : List ℕ} {at : ℕ} (x : CompileError) {n : ℕ} → n ≡ number (x .kind) → Room w out at (refusal x) refusalBound → Room w out at ((82 ∷ 44 ∷ []) ++ (decimal n ++ located x)) (2 + (10 + (pairBound + (pairBound + 1))))
 refusal-room x {n} e room = room-as (sym (refusal-run x n e)) (omega arith) room
 
 -- a part of the listing, from its place on
@@ -58,11 +61,13 @@ module _ {s t : List ℕ} {i : ℕ} (row : NamedRow s t i) {it : Item} (is : lin
 
   -- the fields of its line from the position on
   abbrev pub itemRun : ℕ → ℕ → ℕ → ℕ → List ℕ
-  itemRun k ty took line = (80 ∷ []) ++ field k (field ty (field took (field line ((44 ∷ part s (it .name)) ++ (10 ∷ [])))))
+  itemRun k ty took line = (80 ∷ []) ++ (pair k ty ++ (pair took line ++ ((44 ∷ part s (it .name)) ++ (10 ∷ []))))
 
   pub item-run : (k b n ty took line : ℕ) → ty ≡ typeNumber (it .ty) → took ≡ tookOf b → line ≡ lineIf b n → itemRun k ty took line ≡ itemLine k (record { param = itemIn s t i; taken = takenBy b n })
   unfolding itemLine reportLine fields itemIn itemOf
-  item-run k b n ty took line e f g = rw (is, taker-fields b n, e, f, g, itemIn, itemLine) refl
+  item-run k b n ty took line e f g =
+      let name = (44 ∷ part s (it .name)) ++ (10 ∷ []) in
+      rw (after-pair took line name, after-pair k ty (44 ∷ (decimal took ++ (44 ∷ (decimal line ++ name)))), is, taker-fields b n, e, f, g, itemIn, itemLine) refl
 
 -- room for a name, as it is taken out of the listing
 pub name-room : {w : Bool} {out : List ℕ} {at : ℕ} (s : List ℕ) (x : Place) → Inside s x → length s ≤ maxBytes → Room w out at (44 ∷ part s x) nameBound → Room w out at (44 ∷ take (x .at + x .len - x .at) (drop (x .at) s)) (1 + length (take (x .at + x .len - x .at) (drop (x .at) s)))
@@ -78,18 +83,19 @@ name-wrote s x h short wrote =
     wrote-under (ap (λ (l : List ℕ). 44 ∷ l) (part-taken s x)) (omega arith) wrote
 
 -- room for an item's line, as the fields of a run
-pub item-room : {w : Bool} {out s t : List ℕ} {at i : ℕ} (row : NamedRow s t i) {it : Item} (is : lineIn t i ≡ lineOf it) (k b n ty took line : ℕ) → ty ≡ typeNumber (it .ty) → took ≡ tookOf b → line ≡ lineIf b n → Room w out at (itemLine k (record { param = itemIn s t i; taken = takenBy b n })) itemBound → Room w out at (itemRun row is k ty took line) (1 + (11 + (11 + (11 + (11 + (nameBound + 1))))))
+pub item-room : {w : Bool} {out s t : List ℕ} {at i : ℕ} (row : NamedRow s t i) {it : Item} (is : lineIn t i ≡ lineOf it) (k b n ty took line : ℕ) → ty ≡ typeNumber (it .ty) → took ≡ tookOf b → line ≡ lineIf b n → Room w out at (itemLine k (record { param = itemIn s t i; taken = takenBy b n })) itemBound → Room w out at (itemRun row is k ty took line) (1 + (pairBound + (pairBound + (nameBound + 1))))
 item-room row is k b n ty took line e f g room = room-as (sym (item-run row is k b n ty took line e f g)) (omega arith) room
 
 -- a path's head, as fields, and its items
-pub path-run : (p n : ℕ) (t : Table) → n ≡ length t → (68 ∷ []) ++ field p (field n ((10 ∷ []) ++ itemLines 0 t)) ≡ pathLine p t
+pub path-run : (p n : ℕ) (t : Table) → n ≡ length t → (68 ∷ []) ++ (pair p n ++ ((10 ∷ []) ++ itemLines 0 t)) ≡ pathLine p t
 unfolding pathLine reportLine fields
 path-run p n t e =
-    ap (λ n. 68 ∷ field p (field n (10 ∷ itemLines 0 t))) e
-    ∙ ap (λ (l : List ℕ). 68 ∷ field p (44 ∷ l)) (sym (append-assoc (decimal (length t)) (10 ∷ []) (itemLines 0 t)))
+    ap (λ (l : List ℕ). 68 ∷ l) (after-pair p n ((10 ∷ []) ++ itemLines 0 t))
+    ∙ ap (λ n. 68 ∷ 44 ∷ (decimal p ++ (44 ∷ (decimal n ++ (10 ∷ itemLines 0 t))))) e
+    ∙ ap (λ (l : List ℕ). 68 ∷ 44 ∷ (decimal p ++ (44 ∷ l))) (sym (append-assoc (decimal (length t)) (10 ∷ []) (itemLines 0 t)))
     ∙ ap (λ (l : List ℕ). 68 ∷ 44 ∷ l) (sym (append-assoc (decimal p) (44 ∷ (decimal (length t) ++ (10 ∷ []))) (itemLines 0 t)))
 
-pub path-room : {w : Bool} {out : List ℕ} {at : ℕ} (p n : ℕ) (t : Table) → n ≡ length t → Room w out at (pathLine p t) pathBound → Room w out at ((68 ∷ []) ++ field p (field n ((10 ∷ []) ++ itemLines 0 t))) (1 + (11 + (11 + (1 + itemsBound))))
+pub path-room : {w : Bool} {out : List ℕ} {at : ℕ} (p n : ℕ) (t : Table) → n ≡ length t → Room w out at (pathLine p t) pathBound → Room w out at ((68 ∷ []) ++ (pair p n ++ ((10 ∷ []) ++ itemLines 0 t))) (1 + (pairBound + (1 + itemsBound)))
 path-room p n t e room = room-as (sym (path-run p n t e)) (omega arith) room
 
 -- a table has as many entries as its path has items

@@ -3,7 +3,7 @@ use Prim.Native.Nat.{ℕ, zero, suc}
 use native.Mathlib.Omega.{arith}
 use mathlib.Core.List.{List, [], _∷_, _++_}
 use mathlib.Core.Path.{_≡_, refl, sym, ap, _∙_}
-use Rattle.usage.specs.Path.{takenBy}
+use Rattle.paths.specs.Path.{takenBy}
 use Rattle.output.specs.Decimal.{decimal}
 use Rattle.reporting.specs.Text.{taker}
 use Rattle.reporting.specs.Taker.{tookOf, lineIf}

@@ -8,10 +8,10 @@ use lib.ListN.{length, getD, drop}
 use lib.Seq.{drop-cons}
 use Rattle.rules.specs.Table.{Table}
 use Rattle.names.specs.Items.{itemIn}
-use Rattle.usage.specs.declared.NamePlace.{NamePlace}
-use Rattle.usage.specs.Path.{takenBy, tableFrom, tableOf, noPlace}
-use Rattle.analyze.specs.declared.Declared.{Declared}
-use Rattle.analyze.specs.State.{pathAt, tablesFrom, tablesOf}
+use Rattle.paths.specs.declared.NamePlace.{NamePlace}
+use Rattle.paths.specs.Path.{takenBy, tableFrom, tableOf, noPlace}
+use Rattle.declarations.specs.declared.Declared.{Declared}
+use Rattle.tables.specs.State.{pathAt, tablesFrom, tablesOf}
 use Rattle.output.specs.Put.{Room, Wrote}
 use Rattle.output.proofs.Laws.{room-as, room-first, room-next, wrote-nothing, wrote-next}
 use Rattle.reporting.specs.Text.{itemLine, itemLines, pathLine, pathLines}

@@ -1,5 +1,14 @@
 -- How long the texts of a report can be, so that a position in one can be counted.
-use Prim.Native.Nat.{ℕ, _+_, _*_}
+use Prim.Native.Nat.{ℕ}
+use mathlib.Core.List.{List, _∷_, _++_}
+use Rattle.output.specs.Decimal.{decimal}
+
+-- two fields with numbers
+abbrev pub pair : ℕ → ℕ → List ℕ
+pair a b = (44 ∷ decimal a) ++ (44 ∷ decimal b)
+
+abbrev pub pairBound : ℕ
+pairBound = 22
 
 -- R, a number and four fields
 abbrev pub refusalBound : ℕ

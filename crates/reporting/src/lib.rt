@@ -7,28 +7,37 @@ ghost use lib.ListN.{length};
 ghost use Rattle.reader.specs.Ceilings.{maxBytes};
 ghost use Rattle.text.specs.Text.{part};
 ghost use Rattle.names.specs.Items.{Inside, NamedRow, itemIn};
-ghost use Rattle.usage.specs.Path.{takenBy, tableOf, WellFormed};
-ghost use Rattle.analyze.specs.State.{tablesOf, Ready};
+ghost use Rattle.paths.specs.Path.{takenBy, tableOf, WellFormed};
+ghost use Rattle.tables.specs.State.{tablesOf, Ready};
 ghost use Rattle.output.specs.Put.{Room, Wrote};
 ghost use Rattle.reporting.specs.Text.{itemLine, itemLines, pathLine, pathLines, acceptance, refusal};
-ghost use Rattle.reporting.specs.Bounds.{refusalBound, nameBound, itemBound, itemsBound, pathBound, pathsBound, acceptanceBound};
+ghost use Rattle.reporting.specs.Bounds.{pair, pairBound, refusalBound, nameBound, itemBound, itemsBound, pathBound, pathsBound, acceptanceBound};
 ghost use Rattle.reporting.specs.Taker.{tookOf, lineIf};
-use analyze::Declared;
-use analyze::walk::path_at;
 use ast::CompileError;
 use ast::numbers::error_number;
 use ast::numbers::type_number;
+use declarations::Declared;
 use names::item_at;
 use output::put_byte;
 use output::put_bytes;
 use output::put_decimal;
 use output::put_field;
 use output::put_part;
+use paths::NamePlace;
+use paths::Path;
+use tables::path_at;
 use text::Place;
-use usage::NamePlace;
-use usage::Path;
 
 const LINE_END: u8 = 10;
+
+// Two fields with numbers.
+fn put_pair(output: &mut [u8], writing: bool, at: usize, a: u32, b: u32) -> usize
+    requires { ⌜ Room writing (now output) at (pair a b) pairBound ⌝ }
+    ensures { λ r. ⌜ Wrote writing (now (output .entry)) at (pair a b) pairBound (now (output .exit)) r ⌝ }
+{
+    let next = put_field(output, writing, at, a);
+    put_field(output, writing, next, b)
+}
 
 // R,number,start,end,line,column.
 pub fn put_refusal(output: &mut [u8], writing: bool, at: usize, x: CompileError) -> usize
@@ -40,10 +49,8 @@ pub fn put_refusal(output: &mut [u8], writing: bool, at: usize, x: CompileError)
     let number = error_number(kind);
     let head = put_bytes(output, writing, at, b"R,");
     let numbered = put_decimal(output, writing, head, number);
-    let start = put_field(output, writing, numbered, loc.start);
-    let end = put_field(output, writing, start, loc.end);
-    let line = put_field(output, writing, end, loc.line);
-    let column = put_field(output, writing, line, loc.column);
+    let end = put_pair(output, writing, numbered, loc.start, loc.end);
+    let column = put_pair(output, writing, end, loc.line, loc.column);
     put_byte(output, writing, column, LINE_END)
 }
 
@@ -91,11 +98,9 @@ fn put_item(
     let sort = type_number(ty);
     let is = took(bit);
     let line = line_if(bit, place.line);
-    let letter = put_byte(output, writing, at, 80);
-    let position = put_field(output, writing, letter, k);
-    let typed = put_field(output, writing, position, sort);
-    let taken = put_field(output, writing, typed, is);
-    let taker = put_field(output, writing, taken, line);
+    let letter = put_byte(output, writing, at, b'P');
+    let typed = put_pair(output, writing, letter, k, sort);
+    let taker = put_pair(output, writing, typed, is, line);
     let named = put_name(listing, output, writing, taker, name);
     put_byte(output, writing, named, LINE_END)
 }
@@ -139,9 +144,8 @@ fn put_path(
     requires { ⌜ WellFormed (now listing) (now table) path × (length (now listing) ≤ maxBytes) × Room writing (now output) at (pathLine p (tableOf (now listing) (now table) path)) pathBound ⌝ }
     ensures { λ r. ⌜ Wrote writing (now (output .entry)) at (pathLine p (tableOf (now (listing .entry)) (now (table .entry)) path)) pathBound (now (output .exit)) r ⌝ }
 {
-    let letter = put_byte(output, writing, at, 68);
-    let number = put_field(output, writing, letter, p);
-    let count = put_field(output, writing, number, path.count);
+    let letter = put_byte(output, writing, at, b'D');
+    let count = put_pair(output, writing, letter, p, path.count);
     let head = put_byte(output, writing, count, LINE_END);
     put_items(listing, table, output, writing, head, path)
 }

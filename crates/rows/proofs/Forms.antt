@@ -7,13 +7,14 @@ use Prim.Native.Nat.{ℕ}
 use borrow.Author.Tests.{eqb-true}
 use lib.Dec.{eqb}
 use lib.ListN.{getD}
+use Rattle.ast.specs.declared.Target.the-variants.{Taproot}
 use Rattle.ast.specs.declared.Type.the-variants.{Boolean}
-use Rattle.ast.specs.Numbers.{types}
+use Rattle.ast.specs.Numbers.{targets, types}
 use Rattle.listing.specs.declared.StatementLine.{StatementLine}
 use Rattle.listing.specs.declared.ExpressionLine.{ExpressionLine}
 use Rattle.listing.specs.declared.FactorLine.{FactorLine}
 use Rattle.listing.specs.declared.Line.{Line}
-use Rattle.listing.specs.Kinds.{itemLine, blockLine, statementLine, expressionLine, factorLine}
+use Rattle.listing.specs.Kinds.{contractLine, declarationLine, itemLine, blockLine, statementLine, expressionLine, factorLine}
 use Rattle.rows.specs.Rows.{placeIn, partIn, Kept, kept, keptAs, lineOf}
 use Rattle.rows.specs.declared.Words.{Words}
 
@@ -84,3 +85,18 @@ item-row r =
     (λ l. If (itemLine l) (λ e. l ≡ Line.StackParam (placeIn r) (getD types (r .c) Boolean) (partIn r)))
     r
     (λ k. tt, (λ k. tt, (λ k. refl, (λ k. tt, (λ k. tt, (λ k. tt, (λ k. tt, (λ k. tt, (λ k. tt, (λ k. tt, (λ k. tt, (λ k. tt, (λ k. tt, (λ k. tt, (λ k. tt, (λ k. tt, (λ k. tt, (λ k. tt, (λ k. tt, (λ k. tt, (λ k. tt, tt)))))))))))))))))))))
+
+-- a declaration's row; a contract's
+pub declaration-row : (r : Words) → If (declarationLine (lineOf r)) (λ e. lineOf r ≡ Line.Declaration (r .a))
+declaration-row r =
+    each-form
+    (λ l. If (declarationLine l) (λ e. l ≡ Line.Declaration (r .a)))
+    r
+    (λ k. tt, (λ k. refl, (λ k. tt, (λ k. tt, (λ k. tt, (λ k. tt, (λ k. tt, (λ k. tt, (λ k. tt, (λ k. tt, (λ k. tt, (λ k. tt, (λ k. tt, (λ k. tt, (λ k. tt, (λ k. tt, (λ k. tt, (λ k. tt, (λ k. tt, (λ k. tt, (λ k. tt, tt)))))))))))))))))))))
+
+pub contract-row : (r : Words) → If (contractLine (lineOf r)) (λ e. lineOf r ≡ Line.Contract (getD targets (r .a) Taproot) (r .b))
+contract-row r =
+    each-form
+    (λ l. If (contractLine l) (λ e. l ≡ Line.Contract (getD targets (r .a) Taproot) (r .b)))
+    r
+    (λ k. refl, (λ k. tt, (λ k. tt, (λ k. tt, (λ k. tt, (λ k. tt, (λ k. tt, (λ k. tt, (λ k. tt, (λ k. tt, (λ k. tt, (λ k. tt, (λ k. tt, (λ k. tt, (λ k. tt, (λ k. tt, (λ k. tt, (λ k. tt, (λ k. tt, (λ k. tt, (λ k. tt, tt)))))))))))))))))))))

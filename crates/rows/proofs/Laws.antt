@@ -10,7 +10,7 @@ use borrow.Author.Tests.{ne-eqb}
 use lib.Dec.{eqb, lit<}
 use lib.ListN.{length, drop, getD, set, replicate, length-set, length-append, length-drop, length-replicate}
 use lib.Seq.{sets, length-sets, drop-set-lt, getD-set-same, getD-set-other}
-use Rattle.rows.specs.Rows.{rowIn, rowOf, statementRow, expressionRow, factorRow, bitNumber, Kept, kept, keptAs, wordsOf, lineOf, lineIn, withRow, withRows}
+use Rattle.rows.specs.Rows.{rowIn, rowOf, statementRow, expressionRow, factorRow, bitNumber, Kept, kept, keptAs, wordsOf, lineOf, lineIn, withRow, withRows, rowWords, HasRow, HasRows}
 use Rattle.rows.specs.declared.Words.{Words}
 use Rattle.rows.specs.Work.{workWords, cleared}
 use Rattle.listing.specs.declared.StatementLine.{StatementLine}
@@ -77,43 +77,43 @@ line-row (Line.Expression l) = expression-row l
 line-row (Line.Factor l) = factor-row l
 
 -- the same words give the same row
-row-by : (s t : List ℕ) (i k : ℕ) → ((j : ℕ) → j < 9 → getD s (i * 9 + j) 0 ≡ getD t (k * 9 + j) 0) → rowIn s i ≡ rowIn t k
+row-by : (s t : List ℕ) (i k : ℕ) → ((j : ℕ) → j < rowWords → getD s (i * rowWords + j) 0 ≡ getD t (k * rowWords + j) 0) → rowIn s i ≡ rowIn t k
 row-by s t i k h =
-    let first : getD s (i * 9) 0 ≡ getD t (k * 9) 0 = simp add-zero at (h 0 (lit< tt)) in
+    let first : getD s (i * rowWords) 0 ≡ getD t (k * rowWords) 0 = simp add-zero at (h 0 (lit< tt)) in
     λ x. record { kind = first x; start = h 1 (lit< tt) x; end = h 2 (lit< tt) x; line = h 3 (lit< tt) x; column = h 4 (lit< tt) x; a = h 5 (lit< tt) x; b = h 6 (lit< tt) x; c = h 7 (lit< tt) x; d = h 8 (lit< tt) x }
 
-pub row-same : (t : List ℕ) (i : ℕ) (l : Line) → i * 9 + 9 ≤ length t → lineIn (withRow t i l) i ≡ l
+pub row-same : (t : List ℕ) (i : ℕ) (l : Line) → HasRow t i → lineIn (withRow t i l) i ≡ l
 unfolding lineIn withRow wordsOf
 row-same t i l h =
     let words = wordsOf (rowOf l) in
-    ap lineOf (row-by (sets t (i * 9) words) words i 0 (λ j k. rw (zero-add j) (sets-in t (i * 9) words j h k))) ∙ line-row l
+    ap lineOf (row-by (sets t (i * rowWords) words) words i 0 (λ j k. rw (zero-add j) (sets-in t (i * rowWords) words j h k))) ∙ line-row l
 
 pub row-other : (t : List ℕ) (i k : ℕ) (l : Line) → k < i → lineIn (withRow t i l) k ≡ lineIn t k
 unfolding lineIn withRow
-row-other t i k l h = ap lineOf (row-by (sets t (i * 9) (wordsOf (rowOf l))) t k k (λ j m. sets-below t (i * 9) (wordsOf (rowOf l)) (k * 9 + j) (omega arith)))
+row-other t i k l h = ap lineOf (row-by (sets t (i * rowWords) (wordsOf (rowOf l))) t k k (λ j m. sets-below t (i * rowWords) (wordsOf (rowOf l)) (k * rowWords + j) (omega arith)))
 
 -- a table with its first n lines stored
 pub rows-length : (t : List ℕ) (n : ℕ) (L : ℕ → Line) → length (withRows t n L) ≡ length t
 unfolding withRows withRow
 rows-length t zero L = refl
-rows-length t (suc n) L = length-sets (withRows t n L) (n * 9) (wordsOf (rowOf (L n))) ∙ rows-length t n L
+rows-length t (suc n) L = length-sets (withRows t n L) (n * rowWords) (wordsOf (rowOf (L n))) ∙ rows-length t n L
 
-pub rows-line : (t : List ℕ) (n : ℕ) (L : ℕ → Line) → n * 9 ≤ length t → (k : ℕ) → k < n → lineIn (withRows t n L) k ≡ L k
+pub rows-line : (t : List ℕ) (n : ℕ) (L : ℕ → Line) → HasRows t n → (k : ℕ) → k < n → lineIn (withRows t n L) k ≡ L k
 unfolding withRows
 rows-line t zero L h k below = absurd (omega arith)
 rows-line t (suc n) L h k below =
-    let room : n * 9 + 9 ≤ length (withRows t n L) = rw (rows-length t n L) (omega arith) in
+    let room : n * rowWords + rowWords ≤ length (withRows t n L) = rw (rows-length t n L) (omega arith) in
     ⊎-elim
     (λ (s : suc k ≡ suc n). let e : k ≡ n = omega arith in rw e (row-same (withRows t n L) n (L n) room))
     (λ (m : suc k < suc n). row-other (withRows t n L) n k (L n) (omega arith) ∙ rows-line t n L (omega arith) k (omega arith))
     (eq-or-lt-of-le below)
 
-pub rows-rest : (t : List ℕ) (n : ℕ) (L : ℕ → Line) → n * 9 ≤ workWords → drop workWords (withRows t n L) ≡ drop workWords t
+pub rows-rest : (t : List ℕ) (n : ℕ) (L : ℕ → Line) → n * rowWords ≤ workWords → drop workWords (withRows t n L) ≡ drop workWords t
 unfolding withRows withRow wordsOf
 rows-rest t zero L h = refl
-rows-rest t (suc n) L h = drop-sets workWords (withRows t n L) (n * 9) (wordsOf (rowOf (L n))) (omega arith) ∙ rows-rest t n L (omega arith)
+rows-rest t (suc n) L h = drop-sets workWords (withRows t n L) (n * rowWords) (wordsOf (rowOf (L n))) (omega arith) ∙ rows-rest t n L (omega arith)
 
-pub clear-rows : (t : List ℕ) (n : ℕ) (L : ℕ → Line) → n * 9 ≤ workWords → cleared (withRows t n L) ≡ cleared t
+pub clear-rows : (t : List ℕ) (n : ℕ) (L : ℕ → Line) → n * rowWords ≤ workWords → cleared (withRows t n L) ≡ cleared t
 unfolding cleared
 clear-rows t n L h = ap (λ (r : List ℕ). replicate workWords 0 ++ r) (rows-rest t n L h)
 

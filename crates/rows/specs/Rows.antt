@@ -1,9 +1,9 @@
--- Rows: a line kept in nine words of work memory.
-use Prim.Native.Nat.{ℕ, zero, suc, _+_, _*_, _/_, _%_, _^_, _<_}
+-- Rows: a line kept in a few words of work memory.
+use Prim.Native.Nat.{ℕ, zero, suc, _+_, _*_, _/_, _%_, _^_, _≤_, _<_}
 use mathlib.Core.Bool.{Bool, true, false}
 use mathlib.Core.List.{List, [], _∷_}
 use lib.Dec.{eqb}
-use lib.ListN.{getD}
+use lib.ListN.{length, getD}
 use lib.Seq.{sets}
 use Rattle.ast.specs.declared.Location.{Location}
 use Rattle.ast.specs.declared.Signed.{Signed}
@@ -121,13 +121,24 @@ keptAs (k ∷ ks) n r = elim (eqb n (k .letter)) [ true ↦ k .line r | false �
 unfoldable pub lineOf : Words → Line
 lineOf r = keptAs kept (r .kind) r
 
+-- how many words a row has
+abbrev pub rowWords : ℕ
+rowWords = 9
+
+-- the row numbered i (from 0) is there; n rows are
+abbrev pub HasRow : List ℕ → ℕ → Type 0
+HasRow t i = i * rowWords + rowWords ≤ length t
+
+abbrev pub HasRows : List ℕ → ℕ → Type 0
+HasRows t n = n * rowWords ≤ length t
+
 -- the words of a row, as they lie in work memory
 unfoldable pub wordsOf : Words → List ℕ
 wordsOf r = r .kind ∷ r .start ∷ r .end ∷ r .line ∷ r .column ∷ r .a ∷ r .b ∷ r .c ∷ r .d ∷ []
 
 -- the row numbered i (from 0) of a table
 abbrev pub rowIn : List ℕ → ℕ → Words
-rowIn t i = record { kind = getD t (i * 9) 0; start = getD t (i * 9 + 1) 0; end = getD t (i * 9 + 2) 0; line = getD t (i * 9 + 3) 0; column = getD t (i * 9 + 4) 0; a = getD t (i * 9 + 5) 0; b = getD t (i * 9 + 6) 0; c = getD t (i * 9 + 7) 0; d = getD t (i * 9 + 8) 0 }
+rowIn t i = record { kind = getD t (i * rowWords) 0; start = getD t (i * rowWords + 1) 0; end = getD t (i * rowWords + 2) 0; line = getD t (i * rowWords + 3) 0; column = getD t (i * rowWords + 4) 0; a = getD t (i * rowWords + 5) 0; b = getD t (i * rowWords + 6) 0; c = getD t (i * rowWords + 7) 0; d = getD t (i * rowWords + 8) 0 }
 
 -- the line numbered i of a table
 unfoldable pub lineIn : List ℕ → ℕ → Line
@@ -135,7 +146,7 @@ lineIn t i = lineOf (rowIn t i)
 
 -- a table with the line l stored as its row i
 unfoldable pub withRow : List ℕ → ℕ → Line → List ℕ
-withRow t i l = sets t (i * 9) (wordsOf (rowOf l))
+withRow t i l = sets t (i * rowWords) (wordsOf (rowOf l))
 
 -- a table with the first n lines of a source stored
 unfoldable pub withRows : List ℕ → ℕ → (ℕ → Line) → List ℕ

@@ -1,20 +1,16 @@
 // Runs Check on each listing of data/listings and prints its answer: the listing's index, then the number and the place of
 // the refusal, or five zeros. `harness/run vectors` writes the listings and what is to be printed: the original's answers.
-ghost use Prim.Native.Nat.{_≤_, _<_};
-ghost use Rattle.io.specs.Counts.{Counts};
-use ast::Checked;
 use ast::CompileError;
-use libc::STDOUT_FILENO;
-
-// What work memory holds before a check. It has 16 words more than are asked.
-const FILLED: u32 = 7;
-
-// A record's head: the listing's length; or the end of the file; or what is no head.
-enum Head {
-    Of(usize),
-    End,
-    Cut,
-}
+use examiner::Verdict;
+use records::FILLED;
+use records::Head;
+use records::count_wrong;
+use records::print_number;
+use records::read_bytes;
+use records::read_end;
+use records::read_head;
+use records::touched_past;
+use records::wide;
 
 // What Check answered. All are 0 where it accepted.
 struct Answer {
@@ -38,53 +34,16 @@ enum Step {
     Stop,
 }
 
-fn wide(x: u32) -> u64 {
-    x as u64
-}
-
-// What a decimal digit stands for: the low half of its byte.
-fn digit(b: u8) -> usize
-    ensures { λ r. ⌜ r < 16 ⌝ }
-{
-    (b % 16) as usize
-}
-
-// The five digits of a head.
-fn length_in(head: &[u8; 6]) -> usize {
-    let a = digit(head[0]);
-    let b = digit(head[1]);
-    let c = digit(head[2]);
-    let d = digit(head[3]);
-    let e = digit(head[4]);
-    10000 * a + 1000 * b + 100 * c + 10 * d + e
-}
-
-// The next head: the length in 5 digits, and byte 10.
-fn read_head(fd: i32) -> Head {
-    let mut head = [0u8; 6];
-    let n = io::read_full(fd, &mut head);
-    if n == 0 {
-        return Head::End;
-    }
-    if n < 6 {
-        return Head::Cut;
-    }
-    if head[5] != b'\n' {
-        return Head::Cut;
-    }
-    Head::Of(length_in(&head))
-}
-
-fn answer_of(r: Checked) -> Answer {
+fn answer_of(r: Verdict) -> Answer {
     match r {
-        Checked::Ok => Answer {
+        Verdict::Accepted => Answer {
             number: 0,
             start: 0,
             end: 0,
             line: 0,
             column: 0,
         },
-        Checked::Err(e) => refusal(e),
+        Verdict::Refused(e) => refusal(e),
     }
 }
 
@@ -100,11 +59,6 @@ fn refusal(e: CompileError) -> Answer {
     }
 }
 
-fn print_number(n: u64, after: &[u8]) {
-    io::print_decimal(STDOUT_FILENO, n);
-    io::write_all(STDOUT_FILENO, after);
-}
-
 fn print_answer(index: u64, a: Answer) {
     print_number(index, b",");
     print_number(a.number, b",");
@@ -114,25 +68,10 @@ fn print_answer(index: u64, a: Answer) {
     print_number(a.column, b"\n");
 }
 
-// How many of the words from `from` on and before `to` are not `due`.
-fn count_wrong(work: &[u32; 16400], from: usize, to: usize, due: u32) -> u64
-    requires { ⌜ to ≤ 16400 ⌝ }
-{
-    let mut wrong: u64 = 0;
-    let mut i = from;
-    while i < to {
-        if work[i] != due {
-            wrong = std::num::wrapping_add_u64(wrong, 1);
-        }
-        i += 1;
-    }
-    wrong
-}
-
 // After a check 16384 words are zero; those past them are never touched.
 fn wrong_words(work: &[u32; 16400]) -> u64 {
     let within = count_wrong(work, 0, 16384, 0);
-    std::num::wrapping_add_u64(within, count_wrong(work, 16384, 16400, FILLED))
+    std::num::wrapping_add_u64(within, touched_past(work))
 }
 
 fn accepted(a: Answer) -> u64 {
@@ -148,25 +87,6 @@ fn examine(listing: &[u8], t: Tally) -> Tally {
         accepted: std::num::wrapping_add_u64(t.accepted, accepted(a)),
         wrong: std::num::wrapping_add_u64(t.wrong, wrong_words(&work)),
     }
-}
-
-// The next `size` bytes, at the start of the buffer; none where it is too small.
-fn read_bytes(fd: i32, size: usize, buffer: &mut [u8]) -> usize
-    ensures { λ r. ⌜ Counts r (now (buffer .exit)) ⌝ }
-{
-    if size > buffer.len() {
-        return 0;
-    }
-    io::read_full(fd, &mut buffer[..size])
-}
-
-// Is the next byte a 10?
-fn read_end(fd: i32) -> bool {
-    let mut end = [0u8; 1];
-    if io::read_full(fd, &mut end) < 1 {
-        return false;
-    }
-    end[0] == b'\n'
 }
 
 fn cut_short(index: u64) -> Step {
@@ -188,7 +108,7 @@ fn examine_record(fd: i32, size: usize, t: Tally) -> Step {
 }
 
 fn next_record(fd: i32, t: Tally) -> Step {
-    let head = read_head(fd);
+    let head = read_head(fd, b'\n');
     match head {
         Head::Of(size) => examine_record(fd, size, t),
         Head::End => Step::Stop,

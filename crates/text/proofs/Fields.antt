@@ -10,8 +10,7 @@ use borrow.Author.Tests.{ltb-true, ltb-false, leb-true, leb-false, lt-ltb, le-lt
 use lib.Dec.{leb, ltb, eqb}
 use lib.ListN.{length, drop, getD, getElem?, drop-of-length-le}
 use lib.Seq.{drop-cons}
-use Rattle.text.specs.declared.Pushed.{Pushed}
-use Rattle.text.specs.Text.{Got, got, failed, Reader, given, readAt, _>>=_, yield, fail, guard, minus, byte, within, isDigit, digits, decimal, capped, upTo, word, index, choice, bit, afterMinus, unsigned, sign, run}
+use Rattle.text.specs.Text.{Got, got, failed, Reader, given, readAt, _>>=_, yield, fail, guard, byte, within, isDigit, digits, decimal, capped, upTo, word, index, choice, run}
 use Rattle.text.proofs.Every.{Every}
 use Rattle.text.proofs.Places.{digits-grow, run-from, run-length, run-total, got-place}
 
@@ -72,24 +71,6 @@ module _ {R : Type 0} (good : ℕ → ℕ → R) (bad : R) (s : List ℕ) (limit
       go (got a m t) e = let g = digits-grow (drop i s) v i a m t e in let w : limit < a = omega arith in rw (e, _>>=_, lt-leb a limit w, guard)
       go failed e = rw (e, _>>=_)
 
--- one digit more, as the code answers it
-abbrev pub Push : ℕ → ℕ → Pushed
-Push x limit = elim (leb x limit) [ true ↦ Pushed.Fits x | false ↦ Pushed.Over ]
-
-pub push-fits : (x limit n : ℕ) → Push x limit ≡ Pushed.Fits n → (n ≡ x) × (x ≤ limit)
-push-fits x limit n h = go (leb x limit) refl
-  where
-    go : (b : Bool) → leb x limit ≡ b → (n ≡ x) × (x ≤ limit)
-    go true e = let f : _≡_ {A = Pushed} (Pushed.Fits x) (Pushed.Fits n) = rw (e, Push) at h in let q : n ≡ x = cc in (q, leb-true x limit e)
-    go false e = let f : _≡_ {A = Pushed} Pushed.Over (Pushed.Fits n) = rw (e, Push) at h in let o : _≡_ {A = ℕ} 0 1 = cc in absurd (omega arith)
-
-pub push-over : (x limit : ℕ) → Push x limit ≡ Pushed.Over → limit < x
-push-over x limit h = go (leb x limit) refl
-  where
-    go : (b : Bool) → leb x limit ≡ b → limit < x
-    go true e = let f : _≡_ {A = Pushed} (Pushed.Fits x) Pushed.Over = rw (e, Push) at h in let o : _≡_ {A = ℕ} 0 1 = cc in absurd (omega arith)
-    go false e = leb-false x limit e
-
 -- a number from 0 to the limit: no byte, a zero, another digit, another byte
 pub decimal-past : (limit : ℕ) (s : List ℕ) (i : ℕ) → length s ≤ i → upTo limit i (drop i s) ≡ failed
 unfolding upTo capped _>>=_ decimal
@@ -106,19 +87,6 @@ decimal-digit limit s i h e d = rw (add-one, drop-cons s i 0 h, ne-eqb (getD s i
 pub decimal-other : (limit : ℕ) (s : List ℕ) (i : ℕ) → i < length s → (getD s i 0 ≡ 48 → ⊥) → isDigit (getD s i 0) ≡ false → upTo limit i (drop i s) ≡ failed
 unfolding upTo capped _>>=_ decimal
 decimal-other limit s i h e d = rw (drop-cons s i 0 h, ne-eqb (getD s i 0) 48 e, d, _>>=_, decimal)
-
--- an enum number
-pub index-got : (count : ℕ) (s : List ℕ) (n : ℕ) {v m : ℕ} → word n (drop n s) ≡ got v m (drop m s) → v < count → index count n (drop n s) ≡ got v m (drop m s)
-unfolding index _>>=_ guard
-index-got count s n {v} h l = rw (h, _>>=_, lt-ltb v count l, guard)
-
-pub index-past : (count : ℕ) (s : List ℕ) (n : ℕ) {v m : ℕ} → word n (drop n s) ≡ got v m (drop m s) → count ≤ v → index count n (drop n s) ≡ failed
-unfolding index _>>=_ guard
-index-past count s n {v} h l = rw (h, _>>=_, le-ltb v count l, guard)
-
-pub index-failed : (count : ℕ) (s : List ℕ) (n : ℕ) → word n (drop n s) ≡ failed → index count n (drop n s) ≡ failed
-unfolding index _>>=_
-index-failed count s n h = rw (h, _>>=_)
 
 -- what an enum number numbers
 element-in : {A : Type 0} (xs : List A) (v : ℕ) (d : A) → v < length xs → getElem? xs v ≡ some (getD xs v d)
@@ -171,19 +139,6 @@ index-below count n u {v} {m} {t} h = go (word n u) refl
     go : (x : Got ℕ) → word n u ≡ x → v < count
     go (got a k r) e = test a k r e (ltb a count) refl
     go failed e = let g : _≡_ {A = Got ℕ} failed (got v m t) = rw (e, _>>=_) at h in let o : _≡_ {A = ℕ} 0 1 = cc in absurd (omega arith)
-
--- with a minus sign or without
-pub sign-past : (s : List ℕ) (i : ℕ) → length s ≤ i → sign i (drop i s) ≡ failed
-unfolding sign
-sign-past s i h = rw (drop-of-length-le s h)
-
-pub sign-minus : (s : List ℕ) (i : ℕ) → i < length s → getD s i 0 ≡ minus → sign i (drop i s) ≡ afterMinus (i + 1) (drop (i + 1) s)
-unfolding sign
-sign-minus s i h e = rw (add-one, drop-cons s i 0 h, eq-eqb (getD s i 0) minus e, sign)
-
-pub sign-none : (s : List ℕ) (i : ℕ) → i < length s → (getD s i 0 ≡ minus → ⊥) → sign i (drop i s) ≡ unsigned i (drop i s)
-unfolding sign
-sign-none s i h e = rw (drop-cons s i 0 h, ne-eqb (getD s i 0) minus e, sign)
 
 -- a span: one byte more, none more, no byte more
 module _ (p : ℕ → Bool) where

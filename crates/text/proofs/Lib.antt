@@ -2,4 +2,3 @@ pub mod Places
 pub mod Fields
 pub mod Told
 pub mod Every
-pub mod Words

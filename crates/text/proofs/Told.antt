@@ -8,7 +8,6 @@ use Rattle.ast.specs.declared.Location.{Location}
 use Rattle.ast.specs.declared.Signed.{Signed}
 use Rattle.text.specs.declared.Place.{Place}
 use Rattle.text.specs.declared.Skipped.{Skipped}
-use Rattle.text.specs.declared.DecimalRead.{DecimalRead}
 use Rattle.text.specs.declared.WordRead.{WordRead}
 use Rattle.text.specs.declared.SignedRead.{SignedRead}
 use Rattle.text.specs.declared.PlaceRead.{PlaceRead}
@@ -85,9 +84,6 @@ module _ (b : ℕ) {B : Type 0} (q : Reader B) (s : List ℕ) (n : ℕ) {x : Ski
           let o : _≡_ {A = ℕ} 0 1 = cc in
           absurd (omega arith)
       go failed f = then-failed (byte b) q s n f
-
-pub decimal-tells : Tells DecimalRead.Got DecimalRead.Failed
-decimal-tells = record { value = λ h. cc; at = λ h. cc; apart = λ h. let o : _≡_ {A = ℕ} 0 1 = cc in omega arith }
 
 pub word-tells : Tells WordRead.Got WordRead.Failed
 word-tells = record { value = λ h. cc; at = λ h. cc; apart = λ h. let o : _≡_ {A = ℕ} 0 1 = cc in omega arith }

@@ -17,8 +17,8 @@ use Rattle.rows.specs.declared.Words.{Words}
 use Rattle.rows.proofs.Forms.{each-form}
 use Rattle.reader.specs.Spells.{SpellsExpression, SpellsFactor}
 use Rattle.nodes.proofs.Laws.{line-by}
-use Rattle.limits.specs.Nodes.{Node, expression, factor, SpellsNodes}
-use Rattle.limits.proofs.Nodes.{factorNodes, children, opened}
+use Rattle.nodes.specs.Nodes.{Node, expression, factor, SpellsNodes}
+use Rattle.nodes.proofs.Nodes.{factorNodes, children, opened}
 use Rattle.usage.specs.Names.{hasNames, hasNamesFactor, hasNamesFactors, isName}
 
 -- two rules in turn that take nothing where there are no names

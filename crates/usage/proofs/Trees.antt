@@ -29,11 +29,11 @@ use Rattle.names.specs.Items.{Inside}
 use Rattle.nodes.proofs.Laws.{expression-is, factor-is, row-part, below}
 use Rattle.usage.specs.declared.Parts.{Parts}
 use Rattle.usage.specs.declared.Parts.the-variants.{Named, Expressions, Factors as Signed}
-use Rattle.usage.specs.declared.Path.{Path}
-use Rattle.usage.specs.declared.Used.{Used}
-use Rattle.usage.specs.Path.{tableOf, WellFormed, SameItems, Walked}
+use Rattle.paths.specs.declared.Path.{Path}
+use Rattle.paths.specs.declared.Used.{Used}
+use Rattle.paths.specs.Path.{tableOf, WellFormed, SameItems, Walked}
 use Rattle.usage.specs.Walk.{SpellsExpressions, usageAll, FactorParts, PartsAre, Walks}
-use Rattle.usage.proofs.Walks.{same-items, items-then, walk-pass, walked-ok, walked-err, walk-is, walk-stops}
+use Rattle.paths.proofs.Walks.{same-items, items-then, walk-pass, walked-ok, walked-err, walk-is, walk-stops}
 
 -- ---- some expressions in turn
 

@@ -13,9 +13,9 @@ use Rattle.rules.specs.Usage.{usage, usageFactor, usageFactors}
 use Rattle.nodes.specs.Stands.{Stands}
 use Rattle.usage.specs.declared.Parts.{Parts}
 use Rattle.usage.specs.declared.Parts.the-variants.{Named, Expressions, Factors as Signed}
-use Rattle.usage.specs.declared.Path.{Path}
-use Rattle.usage.specs.declared.Used.{Used}
-use Rattle.usage.specs.Path.{tableOf, Walked}
+use Rattle.paths.specs.declared.Path.{Path}
+use Rattle.paths.specs.declared.Used.{Used}
+use Rattle.paths.specs.Path.{tableOf, Walked}
 
 -- n expressions, one after the other
 pub data SpellsExpressions (L : ℕ → Line) (s : List ℕ) : ℕ → ℕ → List Expression → ℕ → Type 0 where

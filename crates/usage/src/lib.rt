@@ -1,71 +1,31 @@
-// How the items of a path are used: built, taken, handed on, left over.
+// The names of expressions, taken from a path in the order in which they stand.
 ghost use mathlib.Core.Path.{_≡_};
-ghost use Prim.Native.Nat.{ℕ, _+_, _*_, _<_, _≤_, suc};
+ghost use Prim.Native.Nat.{ℕ};
 ghost use mathlib.Core.List.{List};
-ghost use mathlib.Core.Bool.{false};
-ghost use Rattle.ast.specs.Tree.{fault};
-ghost use Rattle.text.specs.Text.{part};
-ghost use Rattle.nodes.specs.declared.Answer.{Answer};
-ghost use Rattle.rules.specs.Table.{params};
-ghost use Rattle.rules.specs.Usage.{take as takeOf};
-ghost use Rattle.names.specs.Items.{Inside, foundIn};
-ghost use Rattle.usage.specs.Taken.{isTaken, withBit, firstFree, isRun};
 ghost use Rattle.rules.specs.Usage.{usage, usageInner, usageFactors};
-ghost use Rattle.rows.specs.Rows.{lineIn};
+ghost use Rattle.rows.specs.Rows.{lineIn, HasRow};
 ghost use Rattle.reader.specs.Spells.{SpellsExpression, SpellsFactor, SpellsFactors};
 ghost use Rattle.nodes.specs.Stands.{ExpressionAt, FactorAt, FactorsAt};
-ghost use Rattle.usage.specs.Path.{tableOf, WellFormed, marked, Walked};
-ghost use Rattle.ast.specs.Tree.{StackParam, Declaration};
-ghost use Rattle.reader.specs.Reading.{item};
-ghost use Rattle.reader.specs.Spells.{SpellsItems};
-ghost use Rattle.rules.specs.Unused.{unused};
-ghost use Rattle.rules.specs.Transfer.{transfer};
-ghost use Rattle.names.specs.Items.{ItemsAt, NamedRow, itemIn};
-ghost use Rattle.ast.specs.Tree.{same};
-ghost use lib.ListN.{length, replicate};
-ghost use Rattle.usage.specs.Tables.{noPlace, Built};
-ghost use Rattle.limits.specs.Somewhere.{Somewhere};
+ghost use Rattle.paths.specs.Path.{WellFormed};
+ghost use Rattle.nodes.specs.Somewhere.{Somewhere};
 ghost use Rattle.ast.specs.Tree.{Expression, Factor};
 ghost use Rattle.usage.specs.Walk.{SpellsExpressions, ExpressionsAt, usageAll, FactorParts, PartsAre, Walks};
 ghost use Rattle.usage.specs.Names.{hasNames, isName};
-use ast::Checked;
-use ast::CompileError;
-use ast::ErrorKind;
 use ast::Location;
-use limits::parts_below;
-use limits::skip_factor;
 use listing::ExpressionLine;
 use listing::FactorLine;
-use names::Found;
-use names::item_at;
-use names::same_name;
+use listing::letters;
 use nodes::Answer;
 use nodes::expression_at;
 use nodes::factor_at;
+use nodes::operands_below;
+use nodes::skip_factor;
+use paths::Path;
+use paths::Used;
+use paths::pass;
+use paths::take;
 use rows::row_in;
 use text::Place;
-
-// Where an item's name stands, as the number of its row, and the listing line that took the item (0 where none). A listing has at most 1024
-// lines; with 16 bits each the tables of all paths take 4 kB.
-#[repr(C)]
-pub struct NamePlace {
-    pub row: u16,
-    pub line: u16,
-}
-
-// A path's items, position 0 being the top; the taken positions are the ones of `taken`.
-#[repr(C)]
-pub struct Path {
-    pub places: [NamePlace; 32],
-    pub count: u32,
-    pub taken: u32,
-}
-
-// What a walk that takes items answers, and the path after it.
-pub struct Used {
-    pub path: Path,
-    pub answer: Answer,
-}
 
 // What an expression's line says of the names in it: a name itself, or how many expressions, or factors of a multi-signature, stand below
 // it, and the row of the first.
@@ -73,104 +33,6 @@ pub enum Parts {
     Named(Location, Place),
     Expressions(u32, usize),
     Factors(u32, usize),
-}
-
-// Whether position k is taken.
-pub fn is_taken(taken: u32, k: u32) -> bool
-    requires { ⌜ k < 32 ⌝ }
-    ensures { λ r. ⌜ r ≡ isTaken taken k ⌝ }
-{
-    (taken >> k) % 2 == 1
-}
-
-// The taken positions with position k.
-pub fn with_bit(taken: u32, k: u32) -> u32
-    requires { ⌜ k < 32 ⌝ }
-    ensures { λ r. ⌜ r ≡ withBit taken k ⌝ }
-{
-    taken | (1 << k)
-}
-
-// The smallest position that is not taken.
-pub fn first_free(taken: u32) -> u32
-    ensures { λ r. ⌜ r ≡ firstFree taken ⌝ }
-{
-    u32::trailing_zeros(!taken)
-}
-
-// Whether the taken positions run from position 0.
-pub fn is_top_run(taken: u32) -> bool
-    ensures { λ r. ⌜ r ≡ isRun taken ⌝ }
-{
-    u32::count_ones(taken) == u32::trailing_zeros(!taken)
-}
-
-// Position k taken by a line.
-pub fn mark(path: Path, k: u32, line: u16) -> Path
-    requires { ⌜ k < 32 ⌝ }
-    ensures { λ r. ⌜ r ≡ marked path k line ⌝ }
-{
-    let mut out = path;
-    let at = k as usize;
-    let p = out.places[at];
-    out.places[at] = NamePlace { row: p.row, line };
-    out.taken = with_bit(path.taken, k);
-    out
-}
-
-fn pass(path: Path, next: usize) -> Used
-    ensures { λ r. ⌜ r ≡ record { path = path; answer = Answer.Pass next } ⌝ }
-{
-    Used {
-        path,
-        answer: Answer::Pass(next),
-    }
-}
-
-fn refuse(path: Path, kind: ErrorKind, loc: Location) -> Used
-    ensures { λ r. ⌜ r ≡ record { path = path; answer = Answer.Fault (fault kind loc) } ⌝ }
-{
-    Used {
-        path,
-        answer: Answer::Fault(CompileError { loc, kind }),
-    }
-}
-
-// The position of the name x among a path's items.
-pub fn find_place(listing: &[u8], table: &[u32], x: Place, path: Path) -> Found
-    requires { ⌜ Inside (now listing) x × WellFormed (now listing) (now table) path ⌝ }
-    ensures { λ r. ⌜ r ≡ foundIn (params (tableOf (now (listing .entry)) (now (table .entry)) path)) (part (now (listing .entry)) x) ⌝ }
-{
-    let count = path.count;
-    let mut k: u32 = 0;
-    while k < count {
-        let p = path.places[k as usize];
-        let it = item_at(table, p.row as usize);
-        let name = it.name;
-        if same_name(listing, x, name) {
-            return Found::At(k);
-        }
-        k += 1;
-    }
-    Found::Missing
-}
-
-// The variable x of row i: unknown 12, taken before 13, a smaller position not yet taken 15; else the row's listing line takes it.
-pub fn take(listing: &[u8], table: &[u32], i: usize, loc: Location, x: Place, path: Path) -> Used
-    requires { ⌜ Inside (now listing) x × WellFormed (now listing) (now table) path × (i + 1 < 65536) ⌝ }
-    ensures { λ r. ⌜ Walked (now (listing .entry)) (now (table .entry)) path (takeOf false loc (suc i) (part (now (listing .entry)) x) (tableOf (now (listing .entry)) (now (table .entry)) path)) (suc i) r ⌝ }
-{
-    let Found::At(k) = find_place(listing, table, x, path) else {
-        return refuse(path, ErrorKind::UndefinedVariable, loc);
-    };
-    let taken = path.taken;
-    if is_taken(taken, k) {
-        return refuse(path, ErrorKind::VariableConsumed, loc);
-    }
-    if first_free(taken) < k {
-        return refuse(path, ErrorKind::InvalidConsumptionOrder, loc);
-    }
-    pass(mark(path, k, (i + 1) as u16), i + 1)
 }
 
 // Below a signature check, whose factor stands at row i.
@@ -295,10 +157,10 @@ fn check_factors(listing: &[u8], table: &[u32], i: usize, n: u32, path: Path) ->
 
 // Whether row i is a variable's line.
 fn is_name(table: &[u32], i: usize) -> bool
-    requires { ⌜ i * 9 + 9 ≤ length (now table) ⌝ }
+    requires { ⌜ HasRow (now table) i ⌝ }
     ensures { λ r. ⌜ r ≡ isName (lineIn (now (table .entry)) i) ⌝ }
 {
-    row_in(table, i).kind == 118
+    row_in(table, i).kind == letters::VARIABLE
 }
 
 // Whether any name stands in the expression at row i.
@@ -312,121 +174,8 @@ pub fn has_names(table: &[u32], i: usize) -> bool
         if is_name(table, next) {
             return true;
         }
-        due = due - 1 + parts_below(table, next);
+        due = due - 1 + operands_below(table, next);
         next += 1;
     }
     false
-}
-
-// A path with no items.
-fn no_items() -> Path
-    ensures { λ r. ⌜ r ≡ record { places = replicate 32 noPlace; count = 0; taken = 0 } ⌝ }
-{
-    Path {
-        places: [NamePlace { row: 0, line: 0 }; 32],
-        count: 0,
-        taken: 0,
-    }
-}
-
-// The path of the `count` items whose rows begin at `first`, from the last declared to the first: a name already met is 11 at the one met now.
-pub fn build_symbol_table(listing: &[u8], table: &[u32], first: usize, count: u32) -> Used
-    requires { ⌜ ItemsAt (now listing) (now table) count first × (count ≤ 32) ⌝ }
-    ensures { λ r. ⌜ ((d : Declaration) → SpellsItems (lineIn (now (table .entry))) StackParam (item (now (listing .entry))) count first d (first + count) → Built (now (listing .entry)) (now (table .entry)) d (first + count) r) ⌝ }
-{
-    let mut path = no_items();
-    let mut k: u32 = 0;
-    while k < count {
-        let row = first + (count - 1 - k) as usize;
-        let it = item_at(table, row);
-        let met = find_place(listing, table, it.name, path);
-        match met {
-            Found::At(_) => {
-                return refuse(path, ErrorKind::DuplicateVariable, it.loc);
-            }
-            Found::Missing => {
-                path.places[k as usize] = NamePlace {
-                    row: row as u16,
-                    line: 0,
-                };
-                path.count = k + 1;
-            }
-        }
-        k += 1;
-    }
-    pass(path, first + count as usize)
-}
-
-// An item that no line took is 14 at it, first declared first: from the bottom up.
-pub fn check_unused_variable(table: &[u32], path: Path) -> Checked
-    requires { ⌜ ((s : List ℕ) × WellFormed s (now table) path) ⌝ }
-    ensures { λ r. ⌜ ((s : List ℕ) → WellFormed s (now (table .entry)) path → r ≡ unused (tableOf s (now (table .entry)) path)) ⌝ }
-{
-    let taken = path.taken;
-    let mut k = path.count;
-    while 0 < k {
-        k -= 1;
-        if !is_taken(taken, k) {
-            let p = path.places[k as usize];
-            let it = item_at(table, p.row as usize);
-            let loc = it.loc;
-            return Checked::Err(CompileError {
-                loc,
-                kind: ErrorKind::UnusedVariable,
-            });
-        }
-    }
-    Checked::Ok
-}
-
-// Whether the items of two places have the same name.
-fn same_item(listing: &[u8], table: &[u32], p: NamePlace, q: NamePlace) -> bool
-    requires { ⌜ NamedRow (now listing) (now table) (p .row) × NamedRow (now listing) (now table) (q .row) ⌝ }
-    ensures { λ r. ⌜ r ≡ same (itemIn (now (listing .entry)) (now (table .entry)) (p .row) .identifier) (itemIn (now (listing .entry)) (now (table .entry)) (q .row) .identifier) ⌝ }
-{
-    let a = item_at(table, p.row as usize);
-    let b = item_at(table, q.row as usize);
-    let x = a.name;
-    let y = b.name;
-    same_name(listing, x, y)
-}
-
-// What is taken in `from` is taken in `to` by the same lines; 20 at `loc` unless that is a run from position 0 of items that `to` has at the same
-// positions. The row of a pass is 0.
-pub fn transfer_prefix_consumption(
-    listing: &[u8],
-    table: &[u32],
-    loc: Location,
-    from: Path,
-    to: Path,
-) -> Used
-    requires { ⌜ WellFormed (now listing) (now table) from × WellFormed (now listing) (now table) to ⌝ }
-    ensures { λ r. ⌜ Walked (now (listing .entry)) (now (table .entry)) to (transfer loc (tableOf (now (listing .entry)) (now (table .entry)) from) (tableOf (now (listing .entry)) (now (table .entry)) to)) 0 r ⌝ }
-{
-    let taken = from.taken;
-    if !is_top_run(taken) {
-        return refuse(to, ErrorKind::DeclarationPathMismatch, loc);
-    }
-    let run = first_free(taken);
-    let mut out = to;
-    let mut k: u32 = 0;
-    while k < run {
-        if to.count <= k {
-            return refuse(to, ErrorKind::DeclarationPathMismatch, loc);
-        }
-        let at = k as usize;
-        let p = from.places[at];
-        let q = to.places[at];
-        if !same_item(listing, table, p, q) {
-            return refuse(to, ErrorKind::DeclarationPathMismatch, loc);
-        }
-        let held = out.places[at];
-        out.places[at] = NamePlace {
-            row: held.row,
-            line: p.line,
-        };
-        out.taken = with_bit(out.taken, k);
-        k += 1;
-    }
-    pass(out, 0)
 }

@@ -1,4 +1,4 @@
-//! A safe wrapper around the examiner's two C exports. It needs nothing but the standard library: copy this file, and link
+//! A safe wrapper around the examiner's C exports. It needs nothing but the standard library: copy this file, and link
 //! libbithoven_examiner.a (`rt staticlib bithoven_examiner` writes it). With cargo, let a build.rs print
 //! `cargo:rustc-link-search=native=FOLDER` and `cargo:rustc-link-lib=static=bithoven_examiner`; with rustc, pass `-L FOLDER -l
 //! static=bithoven_examiner`.
@@ -9,6 +9,7 @@ use std::thread;
 extern "C" {
     fn bithoven_check(listing: *const u8, length: usize, answer: *mut u32) -> u32;
     fn bithoven_report(listing: *const u8, length: usize, output: *mut u8, room: usize, answer: *mut u32) -> usize;
+    fn bithoven_name(listing: *const u8, length: usize, path: u32, position: u32, place: *mut u32) -> u32;
 }
 
 /// A call takes up to 1.1 MB of its thread's stack, and nothing checks it: each is made on a thread with this much.
@@ -72,6 +73,21 @@ pub fn report(listing: &[u8]) -> (Vec<u8>, Result<(), Refusal>) {
     (text, answered(answer))
 }
 
+/// The name of the item at a position of a path, 0 being the top, as the listing holds it; nothing if there is no such item.
+pub fn name(listing: &[u8], path: u32, position: u32) -> Result<Option<&[u8]>, Refusal> {
+    let mut place = [0; 2];
+    let words = &mut place;
+    // SAFETY: the listing has the length given, the place has two words, and the two do not overlap.
+    let number = on_a_deep_stack(move || unsafe {
+        bithoven_name(listing.as_ptr(), listing.len(), path, position, words.as_mut_ptr())
+    });
+    if number != 0 {
+        check(listing)?; // for the place of the refusal
+    }
+    let [at, length] = place.map(|word| word as usize);
+    Ok(if length == 0 { None } else { Some(&listing[at..at + length]) })
+}
+
 #[cfg(test)]
 mod tests {
     use super::*;
@@ -84,6 +100,18 @@ mod tests {
     fn an_acceptance() {
         assert_eq!(check(ACCEPTED), Ok(()));
         assert_eq!(report(ACCEPTED), (b"A,1\nD,0,0\n".to_vec(), Ok(())));
+    }
+
+    #[test]
+    fn names() {
+        let listing =
+            b"T,0,1\nD,2\nP,0,1,1,0,3,low\nP,2,3,1,2,3,top\nB,1\nE,4,9,2,0\nl,4,9,2,0,1\nv,4,5,2,0,top\nv,6,7,2,2,low\n";
+        assert_eq!(name(listing, 0, 0), Ok(Some(&b"top"[..])));
+        assert_eq!(name(listing, 0, 1), Ok(Some(&b"low"[..])));
+        assert_eq!(name(listing, 0, 2), Ok(None));
+        assert_eq!(name(listing, 1, 0), Ok(None));
+        assert_eq!(name(listing, u32::MAX, u32::MAX), Ok(None));
+        assert_eq!(name(LEFT_OVER, 0, 0).map_err(|r| r.number), Err(14));
     }
 
     #[test]

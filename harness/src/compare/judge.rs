@@ -1,4 +1,4 @@
-//! Holds Check and Report against the original and the models, on one listing.
+//! Holds Check, Report and Name against the original and the models, on one listing.
 
 use super::order;
 use super::question::{self, How};
@@ -25,6 +25,8 @@ pub enum About {
     Report,
     /// Report with an output that is too short.
     ShortOutput,
+    /// Name on every item, past them, and on a listing that is refused.
+    Name,
 }
 
 /// Two answers that should be one.
@@ -73,6 +75,7 @@ pub fn judge(listing: &[u8], due: Option<Due>, plant: Plant) -> Result<Seen, Dis
         }
     };
     reports(listing, &check, &text)?;
+    names(listing, &check)?;
     Ok(Seen { number: check[0], how })
 }
 
@@ -163,6 +166,33 @@ fn report(listing: &[u8], check: &Numbers, text: &[u8], room: usize) -> Result<(
     if output != expected {
         let show = |bytes: &[u8]| String::from_utf8_lossy(bytes).into_owned();
         return disagree(about, format!("Report's output:\n{}\ndue:\n{}", show(&output), show(&expected)));
+    }
+    Ok(())
+}
+
+/// Name gives the place of each item's name, as the lines of the listing have it, and none past the last item of a path, past the
+/// last path, or if the listing is refused.
+fn names(listing: &[u8], check: &Numbers) -> Result<(), Disagreement> {
+    let length = listing.len() as u32;
+    let mut none = vec![(0, 0), (length % 3, length % 5)];
+    if check[0] == 0 {
+        let places = stack::paths(listing).places(listing);
+        let last = places.len() as u32;
+        none = vec![(last, 0), (u32::MAX, 0), (last - 1, u32::MAX)];
+        for (path, items) in (0..).zip(&places) {
+            none.push((path, items.len() as u32));
+            (0..).zip(items).try_for_each(|(position, &place)| name(listing, check, path, position, place))?;
+        }
+    }
+    none.iter().try_for_each(|&(path, position)| name(listing, check, path, position, [0, 0]))
+}
+
+/// Name on one item: Check's number, and the place that is due.
+fn name(listing: &[u8], check: &Numbers, path: u32, position: u32, due: [u32; 2]) -> Result<(), Disagreement> {
+    let (returned, place) = examiner::name(listing, path, position);
+    if (returned, place) != (check[0], due) {
+        let asked = format!("Name of position {position} on path {path}");
+        return disagree(About::Name, format!("{asked} {returned}, {place:?}\ndue {}, {due:?}", check[0]));
     }
     Ok(())
 }

@@ -1,4 +1,4 @@
-//! The comparison: Check and Report beside the original and beside models of demand 3 and of the report.
+//! The comparison: Check, Report and Name beside the original and beside models of demand 3 and of the report.
 
 mod damage;
 mod every;

@@ -140,6 +140,13 @@ impl Paths<'_> {
         self.declarations.iter().zip(&self.met).all(|(items, met)| empties(items, met))
     }
 
+    /// Where the names of each path's items stand in the listing, from the top: how many bytes precede one, and its length.
+    pub fn places(&self, listing: &[u8]) -> Vec<Vec<[u32; 2]>> {
+        let before = |name: &str| name.as_ptr() as usize - listing.as_ptr() as usize;
+        let place = |item: &Item| [before(item.name), item.name.len()].map(|n| n as u32);
+        self.declarations.iter().map(|items| items.iter().rev().map(place).collect()).collect()
+    }
+
     /// The report, if the listing is accepted: every path empties its stack, so the item at a position is the one that is
     /// met so many variables later.
     pub fn report(&self) -> Vec<u8> {

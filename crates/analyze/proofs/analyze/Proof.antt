@@ -1,8 +1,8 @@
 use mathlib.Core.List.{[]}
 use mathlib.Core.Path.{ap, _∙_}
 use lib.ListN.{length, getD}
-use Rattle.analyze.proofs.State.{turned-says, turned-branch}
-use Rattle.analyze.proofs.Counting.{block-stands}
+use Rattle.tables.proofs.State.{turned-says, turned-branch}
+use Rattle.tables.proofs.Counting.{block-stands}
 use Rattle.analyze.proofs.Analyzing.{stops-at-shape, stops-at-build, first-in-use, stops-at-walk, ends, given-at}
 use borrow.Author.Needs.{needs}
 use Rattle.analyze.proofs.analyze.Statement.{statement}
@@ -15,20 +15,11 @@ check-shape-requires c κs =
     let g = given-at C (pre .1 (C .contract) (C .spells)) in
     (c .before .before .args .listing .now, g)
 
-enum-known-shape : tie.Need-enum-known-shape
-enum-known-shape c = search needs
-
 refuse-requires : tie.Need-refuse-requires
 refuse-requires c κs = (c .before .before .before .before .before .before .before .before .pre .2, c .before .before .before .before .before .before .before .before .pre .3)
 
 returns : tie.Need-returns
 returns c = λ x sp. let D = c .before .before .before .before .before .before .before .before .before .pre .1 x sp in stops-at-shape D (c .before .before .before .before .before .before .check-shape .ensures _ x _ D) (c .before .before .before .before .shape .given .1) (c .refuse .ensures)
-
-enum-told : tie.Need-enum-told
-enum-told c = search needs
-
-put-branch-requires : tie.Need-put-branch-requires
-put-branch-requires c κs = search needs
 
 build-tables-requires : tie.Need-build-tables-requires
 build-tables-requires c κs =
@@ -39,9 +30,6 @@ build-tables-requires c κs =
     let put = c .before .before .put-branch .ensures in
     (g, pre .2, ap length put ∙ turned-says (a .out .now) 0 [] (pre .3) .2, ap (λ o. getD o 6 0) put ∙ turned-branch (a .out .now) 0 (pre .3))
 
-element-copy-out-if1 : tie.Need-element-copy-out-if1
-element-copy-out-if1 c = search needs
-
 returns-2 : tie.Need-returns-2
 returns-2 c =
     let pre = c .before .before .before .before .before .before .before .before .before .before .before .before .pre in
@@ -51,9 +39,6 @@ returns-2 c =
     let passes = c .before .before .before .before .before .before .before .enum-told .given .1 in
     let m₁ = c .before .before .build-tables .ensures x _ D in
     stops-at-build D shape passes m₁ (c .if1 .taken)
-
-array-copy-out-path-in-use : tie.Need-array-copy-out-path-in-use
-array-copy-out-path-in-use c = search needs
 
 path-in-use-requires : tie.Need-path-in-use-requires
 path-in-use-requires c κs =
@@ -72,9 +57,6 @@ analyze-block-requires c κs =
     let passes = c .before .before .before .before .before .before .before .before .before .before .before .before .enum-told .given .1 in
     let z₁ = c .before .before .before .before .before .if1 .left in
     (block-stands g, m₁ .ready z₁, m₁ .full, first-in-use (g .declared) shape passes m₁ z₁ (c .before .before .path-in-use .ensures .0))
-
-element-copy-out-if2 : tie.Need-element-copy-out-if2
-element-copy-out-if2 c = search needs
 
 returns-3 : tie.Need-returns-3
 returns-3 c =
@@ -112,18 +94,18 @@ analyze-spec =
     tie.close
     (tie.spec
     check-shape-requires
-    enum-known-shape
+    (λ c. search needs)
     refuse-requires
     returns
-    enum-told
-    put-branch-requires
+    (λ c. search needs)
+    (λ c κs. search needs)
     build-tables-requires
-    element-copy-out-if1
+    (λ c. search needs)
     returns-2
-    array-copy-out-path-in-use
+    (λ c. search needs)
     path-in-use-requires
     analyze-block-requires
-    element-copy-out-if2
+    (λ c. search needs)
     returns-3
     finish-requires
     returns-4)

@@ -3,21 +3,6 @@ use borrow.Author.Needs.{needs}
 use Rattle.analyze.proofs.finish.Statement.{statement}
 use Rattle.analyze.proofs.finish.Tie as tie
 
-check-unused-requires : tie.Need-check-unused-requires
-check-unused-requires c κs = search needs
-
-enum-known-left : tie.Need-enum-known-left
-enum-known-left c = search needs
-
-refuse-requires : tie.Need-refuse-requires
-refuse-requires c κs = search needs
-
-enum-told : tie.Need-enum-told
-enum-told c = search needs
-
-put-accepted-requires : tie.Need-put-accepted-requires
-put-accepted-requires c κs = search needs
-
 returns : tie.Need-returns
 returns c = ends-fault (c .refuse .ensures) (rw (← c .before .before .before .before .before .before .check-unused .ensures, c .before .before .before .before .left .given .1))
 
@@ -28,10 +13,10 @@ pub finish-spec : {M : Type 1} → statement M
 finish-spec =
     tie.close
     (tie.spec
-    check-unused-requires
-    enum-known-left
-    refuse-requires
-    enum-told
-    put-accepted-requires
+    (λ c κs. search needs)
+    (λ c. search needs)
+    (λ c κs. search needs)
+    (λ c. search needs)
+    (λ c κs. search needs)
     returns
     returns-2)

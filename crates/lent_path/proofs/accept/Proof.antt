@@ -4,11 +4,8 @@ use borrow.Author.Needs.{needs}
 use Rattle.lent_path.proofs.accept.Statement.{statement}
 use Rattle.lent_path.proofs.accept.Tie as tie
 
-accepted-requires : tie.Need-accepted-requires
-accepted-requires c κs = search needs
-
 returns : tie.Need-returns
 returns c = ap (λ (n : Answered). record { path = c .before .args .path; answered = n }) (c .accepted .ensures)
 
 pub accept-spec : {M : Type 1} → statement M
-accept-spec = tie.close (tie.spec accepted-requires returns)
+accept-spec = tie.close (tie.spec (λ c κs. search needs) returns)

@@ -3,7 +3,7 @@ use native.Mathlib.Omega.{arith}
 use mathlib.Core.Path.{_≡_, refl, sym, _∙_}
 use borrow.Author.Needs.{needs}
 use borrow.Author.Tests.{not-true, not-false}
-use Rattle.usage.specs.Path.{rowsOf}
+use Rattle.paths.specs.Path.{rowsOf}
 use Rattle.lent_path.specs.Rows.{areItems}
 use Rattle.lent_path.proofs.Laws.{path-many, path-strays, path-rows, items-start, items-step, items-done, place-row}
 use Rattle.lent_path.proofs.is_path.Statement.{statement}
@@ -27,21 +27,6 @@ returns-2 c = let a = c .before .before .before .before .before .args in sym (pa
 loop-holds : tie.Need-loop-holds Inv-loop μ-loop
 loop-holds c = let a = c .before .before .before .before .before .args in (refl, c .before .before .if1 .left, omega arith, items-start (a .listing .now) (a .table .now) (rowsOf (a .t3)) (a .t3 .count))
 
-cast-p : tie.Need-cast-p Inv-loop μ-loop
-cast-p c = omega arith
-
-mul-p : tie.Need-mul-p Inv-loop μ-loop
-mul-p c = omega arith
-
-element-copy-out-p : tie.Need-element-copy-out-p Inv-loop μ-loop
-element-copy-out-p c = omega arith
-
-cast-is-item : tie.Need-cast-is-item Inv-loop μ-loop
-cast-is-item c = search needs
-
-is-item-requires : tie.Need-is-item-requires Inv-loop μ-loop
-is-item-requires c κs = tt
-
 returns-3 : tie.Need-returns-3 Inv-loop μ-loop
 returns-3 c =
     let b = c .before .before .before .before .before .before .before .before .before .before .before in
@@ -49,12 +34,6 @@ returns-3 c =
     let l = c .before .before .before .before .before .loop in
     let other = sym (c .before .is-item .ensures) ∙ not-true _ (c .if3 .taken) in
     sym (path-rows (a .listing .now) (a .table .now) (a .t3) (c .before .before .before .before .before .before .before .before .if1 .left) (sym (c .before .before .before .before .before .before .before .is-own .ensures) ∙ not-false _ (c .before .before .before .before .before .before .if2 .left)) ∙ sym (l .inv .3) ∙ items-step (a .listing .now) (a .table .now) (rowsOf (a .t3)) (a .t3 .count) (l .k) (c .before .before .before .before .loop-test .taken) ∙ rw (place-row (a .t3) (l .k), other))
-
-add-k : tie.Need-add-k Inv-loop μ-loop
-add-k c = omega arith
-
-loop-less : tie.Need-loop-less Inv-loop μ-loop
-loop-less c = omega arith
 
 loop-again : tie.Need-loop-again Inv-loop μ-loop
 loop-again c =
@@ -79,13 +58,13 @@ is-path-spec =
     is-own-requires
     returns-2
     loop-holds
-    cast-p
-    mul-p
-    element-copy-out-p
-    cast-is-item
-    is-item-requires
+    (λ c. omega arith)
+    (λ c. omega arith)
+    (λ c. omega arith)
+    (λ c. search needs)
+    (λ c κs. tt)
     returns-3
-    add-k
-    loop-less
+    (λ c. omega arith)
+    (λ c. omega arith)
     loop-again
     returns-4)

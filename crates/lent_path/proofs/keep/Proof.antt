@@ -4,18 +4,6 @@ use borrow.Author.Needs.{needs}
 use Rattle.lent_path.proofs.keep.Statement.{statement}
 use Rattle.lent_path.proofs.keep.Tie as tie
 
-enum-told : tie.Need-enum-told
-enum-told c = search needs
-
-accept-requires : tie.Need-accept-requires
-accept-requires c κs = search needs
-
-enum-known-answer : tie.Need-enum-known-answer
-enum-known-answer c = search needs
-
-refuse-requires : tie.Need-refuse-requires
-refuse-requires c κs = search needs
-
 returns : tie.Need-returns
 unfolding kept keptWith
 returns c = let a = c .before .before .before .before .args in c .accept .ensures ∙ sym (ap (keptWith (a .path) (a .u .path)) (c .before .enum-told .given .1))
@@ -27,4 +15,4 @@ returns-2 c = let a = c .before .before .before .before .before .args in c .refu
 pub keep-spec : {M : Type 1} → statement M
 keep-spec =
     tie.close
-    (tie.spec enum-told accept-requires enum-known-answer refuse-requires returns returns-2)
+    (tie.spec (λ c. search needs) (λ c κs. search needs) (λ c. search needs) (λ c κs. search needs) returns returns-2)

@@ -4,11 +4,8 @@ use borrow.Author.Needs.{needs}
 use Rattle.lent_path.proofs.refuse.Statement.{statement}
 use Rattle.lent_path.proofs.refuse.Tie as tie
 
-refused-requires : tie.Need-refused-requires
-refused-requires c κs = search needs
-
 returns : tie.Need-returns
 returns c = ap (λ (n : Answered). record { path = c .before .args .path; answered = n }) (c .refused .ensures)
 
 pub refuse-spec : {M : Type 1} → statement M
-refuse-spec = tie.close (tie.spec refused-requires returns)
+refuse-spec = tie.close (tie.spec (λ c κs. search needs) returns)

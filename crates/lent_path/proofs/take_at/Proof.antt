@@ -1,25 +1,13 @@
 use mathlib.Core.Path.{sym, _∙_}
 use borrow.Author.Tests.{not-true, not-false}
-use Rattle.usage.proofs.Walks.{walk-is}
+use Rattle.paths.proofs.Walks.{walk-is}
 use Rattle.lent_path.proofs.Laws.{variable-sound, path-sound, path-full, take-unfit, take-missing, take-here, kept-err, kept-walk}
 use borrow.Author.Needs.{needs}
 use Rattle.lent_path.proofs.take_at.Statement.{statement}
 use Rattle.lent_path.proofs.take_at.Tie as tie
 
-is-path-requires : tie.Need-is-path-requires
-is-path-requires c κs = search needs
-
-unfit-requires : tie.Need-unfit-requires
-unfit-requires c κs = search needs
-
 returns : tie.Need-returns
 returns c = let a = c .before .before .before .before .before .args in kept-err (c .unfit .ensures) (take-unfit (a .listing .now) (a .table .now) (a .i) (a .path) (sym (c .before .before .is-path .ensures) ∙ not-true _ (c .before .if1 .taken)))
-
-variable-at-requires : tie.Need-variable-at-requires
-variable-at-requires c κs = search needs
-
-enum-known-v : tie.Need-enum-known-v
-enum-known-v c = search needs
 
 take-requires : tie.Need-take-requires
 take-requires c κs =
@@ -27,15 +15,6 @@ take-requires c κs =
     let a = b .args in
     let v = variable-sound (a .listing .now) (a .table .now) (a .i) _ _ (sym (c .before .before .before .variable-at .ensures) ∙ c .before .v .given .1) in
     (v .0, path-sound (a .listing .now) (a .table .now) (a .path) (path-full (a .path) _ (b .good .1 .1 .1 .0)) (sym (c .before .before .before .before .before .is-path .ensures) ∙ not-false _ (c .before .before .before .before .if1 .left)), v .1)
-
-keep-requires : tie.Need-keep-requires
-keep-requires c κs = search needs
-
-enum-told : tie.Need-enum-told
-enum-told c = search needs
-
-unfit-requires-2 : tie.Need-unfit-requires-2
-unfit-requires-2 c κs = search needs
 
 returns-2 : tie.Need-returns-2
 returns-2 c =
@@ -49,14 +28,14 @@ pub take-at-spec : {M : Type 1} → statement M
 take-at-spec =
     tie.close
     (tie.spec
-    is-path-requires
-    unfit-requires
+    (λ c κs. search needs)
+    (λ c κs. search needs)
     returns
-    variable-at-requires
-    enum-known-v
+    (λ c κs. search needs)
+    (λ c. search needs)
     take-requires
-    keep-requires
-    enum-told
-    unfit-requires-2
+    (λ c κs. search needs)
+    (λ c. search needs)
+    (λ c κs. search needs)
     returns-2
     returns-3)

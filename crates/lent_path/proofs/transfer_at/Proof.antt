@@ -1,49 +1,22 @@
 use mathlib.Core.Path.{sym, _∙_}
 use borrow.Author.Tests.{not-true, not-false}
-use Rattle.usage.proofs.Walks.{walk-is}
+use Rattle.paths.proofs.Walks.{walk-is}
 use Rattle.lent_path.proofs.Laws.{path-sound, path-full, transfer-first, transfer-second, transfer-missing, transfer-here, kept-err, kept-walk}
 use borrow.Author.Needs.{needs}
 use Rattle.lent_path.proofs.transfer_at.Statement.{statement}
 use Rattle.lent_path.proofs.transfer_at.Tie as tie
 
-is-path-requires : tie.Need-is-path-requires
-is-path-requires c κs = search needs
-
-unfit-requires : tie.Need-unfit-requires
-unfit-requires c κs = search needs
-
 returns : tie.Need-returns
 returns c = let a = c .before .before .before .before .before .args in kept-err (c .unfit .ensures) (transfer-first (a .listing .now) (a .table .now) (a .i) (a .from) (a .to) (sym (c .before .before .is-path .ensures) ∙ not-true _ (c .before .if1 .taken)))
 
-is-path-requires-2 : tie.Need-is-path-requires-2
-is-path-requires-2 c κs = search needs
-
-unfit-requires-2 : tie.Need-unfit-requires-2
-unfit-requires-2 c κs = search needs
-
 returns-2 : tie.Need-returns-2
 returns-2 c = let a = c .before .before .before .before .before .before .before .args in kept-err (c .unfit2 .ensures) (transfer-second (a .listing .now) (a .table .now) (a .i) (a .from) (a .to) (sym (c .before .before .before .before .is-path .ensures) ∙ not-false _ (c .before .before .before .if1 .left)) (sym (c .before .before .is-path2 .ensures) ∙ not-true _ (c .before .if2 .taken)))
-
-if-at-requires : tie.Need-if-at-requires
-if-at-requires c κs = search needs
-
-enum-known-b : tie.Need-enum-known-b
-enum-known-b c = search needs
 
 transfer-prefix-consumption-requires : tie.Need-transfer-prefix-consumption-requires
 transfer-prefix-consumption-requires c κs =
     let b = c .before .before .before .before .before .before .before .before .before .before in
     let a = b .args in
     (path-sound (a .listing .now) (a .table .now) (a .from) (path-full (a .from) _ (b .good .1 .1 .1 .0)) (sym (c .before .before .before .before .before .before .before .is-path .ensures) ∙ not-false _ (c .before .before .before .before .before .before .if1 .left)), path-sound (a .listing .now) (a .table .now) (a .to) (path-full (a .to) _ (b .good .1 .1 .1 .1 .0)) (sym (c .before .before .before .before .before .is-path2 .ensures) ∙ not-false _ (c .before .before .before .before .if2 .left)))
-
-keep-requires : tie.Need-keep-requires
-keep-requires c κs = search needs
-
-enum-told : tie.Need-enum-told
-enum-told c = search needs
-
-unfit-requires-3 : tie.Need-unfit-requires-3
-unfit-requires-3 c κs = search needs
 
 returns-3 : tie.Need-returns-3
 returns-3 c =
@@ -57,17 +30,17 @@ pub transfer-at-spec : {M : Type 1} → statement M
 transfer-at-spec =
     tie.close
     (tie.spec
-    is-path-requires
-    unfit-requires
+    (λ c κs. search needs)
+    (λ c κs. search needs)
     returns
-    is-path-requires-2
-    unfit-requires-2
+    (λ c κs. search needs)
+    (λ c κs. search needs)
     returns-2
-    if-at-requires
-    enum-known-b
+    (λ c κs. search needs)
+    (λ c. search needs)
     transfer-prefix-consumption-requires
-    keep-requires
-    enum-told
-    unfit-requires-3
+    (λ c κs. search needs)
+    (λ c. search needs)
+    (λ c κs. search needs)
     returns-3
     returns-4)

@@ -7,14 +7,8 @@ use borrow.Author.Needs.{needs}
 use Rattle.lent_path.proofs.unfit.Statement.{statement}
 use Rattle.lent_path.proofs.unfit.Tie as tie
 
-unplaced-requires : tie.Need-unplaced-requires
-unplaced-requires c κs = search needs
-
-refuse-requires : tie.Need-refuse-requires
-refuse-requires c κs = search needs
-
 returns : tie.Need-returns
 returns c = c .refuse .ensures ∙ ap (λ w. record { path = c .before .before .args .path; answered = answered (err (fault UnexpectedLine w)) }) (c .before .unplaced .ensures)
 
 pub unfit-spec : {M : Type 1} → statement M
-unfit-spec = tie.close (tie.spec unplaced-requires refuse-requires returns)
+unfit-spec = tie.close (tie.spec (λ c κs. search needs) (λ c κs. search needs) returns)

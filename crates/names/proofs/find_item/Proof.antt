@@ -14,15 +14,6 @@ abbrev μ-loop : tie.MeasureT-loop
 loop-holds : tie.Need-loop-holds Inv-loop μ-loop
 loop-holds c = let e : c .before .before .args .count - 0 ≡ c .before .before .args .count = omega arith in (omega arith, rw e)
 
-sub-item-at : tie.Need-sub-item-at Inv-loop μ-loop
-sub-item-at c = omega arith
-
-sub-item-at-2 : tie.Need-sub-item-at-2 Inv-loop μ-loop
-sub-item-at-2 c = omega arith
-
-cast-item-at : tie.Need-cast-item-at Inv-loop μ-loop
-cast-item-at c = omega arith
-
 add-item-at : tie.Need-add-item-at Inv-loop μ-loop
 add-item-at c =
     let a = c .before .before .before .before .args in
@@ -46,12 +37,6 @@ returns c =
     let p = c .before .before .before .item-at in
     find-done (a .listing .now) (a .table .now) (a .first) (a .count) (l .k) (a .x) _ (find-here (a .listing .now) (a .table .now) (a .first) (a .count) (l .k) (a .x) (c .before .before .before .before .loop-test .taken) (p .result) (p .ensures) (l .inv .1) (sym (c .if1 .taken) ∙ c .before .same-name .ensures))
 
-add-k : tie.Need-add-k Inv-loop μ-loop
-add-k c = omega arith
-
-loop-less : tie.Need-loop-less Inv-loop μ-loop
-loop-less c = omega arith
-
 loop-again : tie.Need-loop-again Inv-loop μ-loop
 loop-again c =
     let a = c .before .before .before .before .before .before .before .before .args in
@@ -72,14 +57,14 @@ find-item-spec =
     Inv-loop
     μ-loop
     loop-holds
-    sub-item-at
-    sub-item-at-2
-    cast-item-at
+    (λ c. omega arith)
+    (λ c. omega arith)
+    (λ c. omega arith)
     add-item-at
     item-at-requires
     same-name-requires
     returns
-    add-k
-    loop-less
+    (λ c. omega arith)
+    (λ c. omega arith)
     loop-again
     returns-2)

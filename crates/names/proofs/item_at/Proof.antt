@@ -6,18 +6,6 @@ use Rattle.nodes.proofs.Laws.{line-of}
 use Rattle.names.proofs.item_at.Statement.{statement}
 use Rattle.names.proofs.item_at.Tie as tie
 
-row-in-requires : tie.Need-row-in-requires
-row-in-requires c κs = search needs
-
-place-in-requires : tie.Need-place-in-requires
-place-in-requires c κs = search needs
-
-type-from-requires : tie.Need-type-from-requires
-type-from-requires c κs = search needs
-
-part-in-requires : tie.Need-part-in-requires
-part-in-requires c κs = search needs
-
 returns : tie.Need-returns
 returns c =
     let a = c .before .before .before .before .before .args in
@@ -26,4 +14,4 @@ returns c =
 pub item-at-spec : {M : Type 1} → statement M
 item-at-spec =
     tie.close
-    (tie.spec row-in-requires place-in-requires type-from-requires part-in-requires returns)
+    (tie.spec (λ c κs. search needs) (λ c κs. search needs) (λ c κs. search needs) (λ c κs. search needs) returns)

@@ -20,21 +20,6 @@ returns c =
 loop-holds : tie.Need-loop-holds Inv-loop μ-loop
 loop-holds c = (omega arith, omega arith, omega arith, refl)
 
-sub-k : tie.Need-sub-k Inv-loop μ-loop
-sub-k c = omega arith
-
-add-if2 : tie.Need-add-if2 Inv-loop μ-loop
-add-if2 c = omega arith
-
-shared-slice-read-if2 : tie.Need-shared-slice-read-if2 Inv-loop μ-loop
-shared-slice-read-if2 c = omega arith
-
-add-if2-2 : tie.Need-add-if2-2 Inv-loop μ-loop
-add-if2-2 c = omega arith
-
-shared-slice-read-if2-2 : tie.Need-shared-slice-read-if2-2 Inv-loop μ-loop
-shared-slice-read-if2-2 c = omega arith
-
 returns-2 : tie.Need-returns-2 Inv-loop μ-loop
 returns-2 c =
     let a = c .before .before .before .before .before .before .before .args in
@@ -42,9 +27,6 @@ returns-2 c =
     sym (sym (parts-from (a .listing .now) (a .a) (a .b) (omega arith))
     ∙ sym (l .inv .3)
     ∙ same-less (a .listing .now) (a .a .at) (a .b .at) (l .k) (omega arith) (omega arith) (omega arith) (c .if2 .taken))
-
-loop-less : tie.Need-loop-less Inv-loop μ-loop
-loop-less c = omega arith
 
 loop-again : tie.Need-loop-again Inv-loop μ-loop
 loop-again c =
@@ -66,12 +48,12 @@ same-name-spec =
     μ-loop
     returns
     loop-holds
-    sub-k
-    add-if2
-    shared-slice-read-if2
-    add-if2-2
-    shared-slice-read-if2-2
+    (λ c. omega arith)
+    (λ c. omega arith)
+    (λ c. omega arith)
+    (λ c. omega arith)
+    (λ c. omega arith)
     returns-2
-    loop-less
+    (λ c. omega arith)
     loop-again
     returns-3)

@@ -10,9 +10,6 @@ use Rattle.output.proofs.put_byte.Tie as tie
 slice-write-output : tie.Need-slice-write-output
 slice-write-output c = omega (arith, c .before .pre .fits (c .if1 .taken))
 
-add-result : tie.Need-add-result
-add-result c = search needs
-
 returns : tie.Need-returns
 unfolding puts
 returns c = record {
@@ -25,4 +22,4 @@ same-length : tie.Need-same-length
 same-length c = wrote-length (returns c)
 
 pub put-byte-spec : {M : Type 1} → statement M
-put-byte-spec = tie.close (tie.spec slice-write-output add-result same-length returns)
+put-byte-spec = tie.close (tie.spec slice-write-output (λ c. search needs) same-length returns)

@@ -18,17 +18,11 @@ Inv-loop output₀ writing at s next₀ i₀ output next i = (i ≤ length s) ×
 abbrev μ-loop : tie.MeasureT-loop
 μ-loop output₀ writing at s next₀ i₀ output next i = length s - i
 
-add-result : tie.Need-add-result Inv-loop μ-loop
-add-result c = omega arith
-
 returns : tie.Need-returns Inv-loop μ-loop
 returns c = wrote-off (not-true _ (c .if1 .taken)) refl (omega arith)
 
 loop-holds : tie.Need-loop-holds Inv-loop μ-loop
 loop-holds c = (search needs, wrote-nothing _ _ _)
-
-shared-slice-read-put-byte : tie.Need-shared-slice-read-put-byte Inv-loop μ-loop
-shared-slice-read-put-byte c = omega arith
 
 put-byte-requires : tie.Need-put-byte-requires Inv-loop μ-loop
 put-byte-requires c κs =
@@ -38,12 +32,6 @@ put-byte-requires c κs =
       fits = λ t. omega (arith, c .before .before .before .before .before .before .before .pre .fits (not-false _ (c .before .before .before .before .if1 .left)), wrote-length wrote);
       counts = omega arith;
     }
-
-add-i : tie.Need-add-i Inv-loop μ-loop
-add-i c = omega arith
-
-loop-less : tie.Need-loop-less Inv-loop μ-loop
-loop-less c = omega arith
 
 loop-again : tie.Need-loop-again Inv-loop μ-loop
 loop-again c =
@@ -66,13 +54,13 @@ put-bytes-spec =
     (tie.spec
     Inv-loop
     μ-loop
-    add-result
+    (λ c. omega arith)
     returns
     loop-holds
-    shared-slice-read-put-byte
+    (λ c. omega arith)
     put-byte-requires
-    add-i
-    loop-less
+    (λ c. omega arith)
+    (λ c. omega arith)
     loop-again
     same-length
     returns-2)

@@ -9,16 +9,10 @@ use Rattle.output.proofs.put_decimal.Tie as tie
 write-decimal-requires : tie.Need-write-decimal-requires
 write-decimal-requires c κs = record { fits = λ t. c .before .before .before .pre .fits (c .before .if1 .taken); counts = c .before .before .before .pre .counts }
 
-same-length : tie.Need-same-length
-same-length c = search needs
-
 returns : tie.Need-returns
 returns c =
     let m : c .before .before .before .before .before .before .args .writing ≡ true = c .before .before .before .before .if1 .taken in
     rw m (c .before .before .write-decimal .ensures)
-
-decimal-length-requires : tie.Need-decimal-length-requires
-decimal-length-requires c κs = search needs
 
 add-result : tie.Need-add-result
 add-result c = omega (arith, decimal-short (c .before .before .before .args .x) (c .before .before .before .fits .x .fits))
@@ -32,8 +26,8 @@ put-decimal-spec =
     tie.close
     (tie.spec
     write-decimal-requires
-    same-length
+    (λ c. search needs)
     returns
-    decimal-length-requires
+    (λ c κs. search needs)
     add-result
     returns-2)

@@ -10,11 +10,8 @@ put-byte-requires c κs = room-first (decimal (c .before .before .args .x)) 10 (
 put-decimal-requires : tie.Need-put-decimal-requires
 put-decimal-requires c κs = room-next (c .before .before .before .before .before .before .pre) (c .before .before .before .put-byte .ensures)
 
-same-length : tie.Need-same-length
-same-length c = search needs
-
 returns : tie.Need-returns
 returns c = wrote-next (c .before .before .before .before .before .before .put-byte .ensures) (c .before .before .put-decimal .ensures)
 
 pub put-field-spec : {M : Type 1} → statement M
-put-field-spec = tie.close (tie.spec put-byte-requires put-decimal-requires same-length returns)
+put-field-spec = tie.close (tie.spec put-byte-requires put-decimal-requires (λ c. search needs) returns)

@@ -10,11 +10,8 @@ put-byte-requires c κs = room-first (c .before .before .before .args .s .now) (
 put-bytes-requires : tie.Need-put-bytes-requires
 put-bytes-requires c κs = room-next (c .before .before .before .before .before .before .before .pre) (c .before .before .before .put-byte .ensures)
 
-same-length : tie.Need-same-length
-same-length c = search needs
-
 returns : tie.Need-returns
 returns c = wrote-next (c .before .before .before .before .before .before .put-byte .ensures) (c .before .before .put-bytes .ensures)
 
 pub put-part-spec : {M : Type 1} → statement M
-put-part-spec = tie.close (tie.spec put-byte-requires put-bytes-requires same-length returns)
+put-part-spec = tie.close (tie.spec put-byte-requires put-bytes-requires (λ c. search needs) returns)

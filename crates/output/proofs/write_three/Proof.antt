@@ -12,13 +12,10 @@ write-digit-requires : tie.Need-write-digit-requires
 unfolding lastDigits
 write-digit-requires c κs = room-next (c .before .before .before .before .before .before .pre) (c .before .before .before .write-two .ensures)
 
-same-length : tie.Need-same-length
-same-length c = search needs
-
 returns : tie.Need-returns
 unfolding lastDigits
 returns c = wrote-next (c .before .before .before .before .before .before .write-two .ensures) (c .before .before .write-digit .ensures)
 
 pub write-three-spec : {M : Type 1} → statement M
 write-three-spec =
-    tie.close (tie.spec write-two-requires write-digit-requires same-length returns)
+    tie.close (tie.spec write-two-requires write-digit-requires (λ c. search needs) returns)

@@ -12,13 +12,10 @@ write-digit-requires-2 : tie.Need-write-digit-requires-2
 unfolding lastDigits
 write-digit-requires-2 c κs = room-next (c .before .before .before .before .before .before .pre) (c .before .before .before .write-digit .ensures)
 
-same-length : tie.Need-same-length
-same-length c = search needs
-
 returns : tie.Need-returns
 unfolding lastDigits
 returns c = wrote-next (c .before .before .before .before .before .before .write-digit .ensures) (c .before .before .write-digit2 .ensures)
 
 pub write-two-spec : {M : Type 1} → statement M
 write-two-spec =
-    tie.close (tie.spec write-digit-requires write-digit-requires-2 same-length returns)
+    tie.close (tie.spec write-digit-requires write-digit-requires-2 (λ c. search needs) returns)

@@ -2,8 +2,8 @@ use Prim.Native.Nat.{ℕ, _*_, _-_, _≤_, _+_}
 use native.Mathlib.Omega.{arith}
 use mathlib.Core.List.{List}
 use lib.ListN.{length, getD}
-use Rattle.usage.specs.Path.{tableFrom, tableOf, noPlace}
-use Rattle.usage.proofs.Tables.{row-named}
+use Rattle.paths.specs.Path.{tableFrom, tableOf, noPlace}
+use Rattle.paths.proofs.Tables.{row-named}
 use Rattle.output.proofs.Laws.{wrote-length}
 use Rattle.reporting.specs.Text.{itemLines}
 use Rattle.reporting.specs.Bounds.{itemBound, itemsBound}
@@ -22,9 +22,6 @@ loop-holds : tie.Need-loop-holds Inv-loop μ-loop
 loop-holds c =
     let a = c .before .before .before .before .args in
     (omega arith, putting-none (items-all (a .listing .now) (a .table .now) (a .path .places) (a .path .taken) (a .path .count)))
-
-cast-place : tie.Need-cast-place Inv-loop μ-loop
-cast-place c = search needs
 
 mul-place : tie.Need-mul-place Inv-loop μ-loop
 mul-place c = omega (arith, c .before .before .before .before .before .before .pre .0 .few)
@@ -46,9 +43,6 @@ put-item-requires c κs =
 
 add-k : tie.Need-add-k Inv-loop μ-loop
 add-k c = omega (arith, c .before .before .before .before .before .before .before .before .before .before .before .pre .0 .few)
-
-loop-less : tie.Need-loop-less Inv-loop μ-loop
-loop-less c = omega arith
 
 loop-again : tie.Need-loop-again Inv-loop μ-loop
 loop-again c =
@@ -80,12 +74,12 @@ put-items-spec =
     Inv-loop
     μ-loop
     loop-holds
-    cast-place
+    (λ c. search needs)
     mul-place
     array-copy-out-place
     put-item-requires
     add-k
-    loop-less
+    (λ c. omega arith)
     loop-again
     same-length
     returns)

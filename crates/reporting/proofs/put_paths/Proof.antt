@@ -3,8 +3,8 @@ use native.Mathlib.Omega.{arith}
 use mathlib.Core.List.{List, _++_}
 use mathlib.Core.Path.{sym, ap, _∙_, subst}
 use lib.ListN.{length}
-use Rattle.usage.specs.Path.{tableOf, WellFormed}
-use Rattle.analyze.specs.State.{tablesOf}
+use Rattle.paths.specs.Path.{tableOf, WellFormed}
+use Rattle.tables.specs.State.{tablesOf}
 use Rattle.output.proofs.Laws.{wrote-length}
 use Rattle.reporting.specs.Text.{pathLine, pathLines}
 use Rattle.reporting.specs.Bounds.{pathBound, pathsBound}
@@ -23,17 +23,11 @@ loop-holds c =
     let a = c .before .before .before .args in
     (omega arith, putting-none (paths-all (a .listing .now) (a .table .now) (a .d) (a .t4) (a .taken .now)))
 
-cast-path-at : tie.Need-cast-path-at Inv-loop μ-loop
-cast-path-at c = omega arith
-
 mul-path-at : tie.Need-mul-path-at Inv-loop μ-loop
 mul-path-at c = omega (arith, c .before .before .before .before .before .pre .0 .few)
 
 array-copy-out-path-at : tie.Need-array-copy-out-path-at Inv-loop μ-loop
 array-copy-out-path-at c = omega (arith, c .before .before .before .before .before .pre .0 .few)
-
-cast-path-at-2 : tie.Need-cast-path-at-2 Inv-loop μ-loop
-cast-path-at-2 c = omega arith
 
 path-at-requires : tie.Need-path-at-requires Inv-loop μ-loop
 path-at-requires c κs = omega (arith, c .before .before .before .before .before .before .pre .0 .few)
@@ -52,9 +46,6 @@ put-path-requires c κs =
 
 add-p : tie.Need-add-p Inv-loop μ-loop
 add-p c = omega (arith, c .before .before .before .before .before .before .before .before .before .before .before .pre .0 .few)
-
-loop-less : tie.Need-loop-less Inv-loop μ-loop
-loop-less c = omega arith
 
 loop-again : tie.Need-loop-again Inv-loop μ-loop
 loop-again c =
@@ -85,14 +76,14 @@ put-paths-spec =
     Inv-loop
     μ-loop
     loop-holds
-    cast-path-at
+    (λ c. omega arith)
     mul-path-at
     array-copy-out-path-at
-    cast-path-at-2
+    (λ c. omega arith)
     path-at-requires
     put-path-requires
     add-p
-    loop-less
+    (λ c. omega arith)
     loop-again
     same-length
     returns)

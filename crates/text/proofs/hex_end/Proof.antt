@@ -18,26 +18,8 @@ abbrev μ-loop : tie.MeasureT-loop
 returns : tie.Need-returns Inv-loop μ-loop
 returns c = let a = c .before .before .args in end-past isHexDigit (a .listing .now) (a .at) (omega arith)
 
-loop-holds : tie.Need-loop-holds Inv-loop μ-loop
-loop-holds c = (omega arith, refl)
-
-sub-loop : tie.Need-sub-loop Inv-loop μ-loop
-sub-loop c = omega arith
-
-is-hex-run-requires : tie.Need-is-hex-run-requires Inv-loop μ-loop
-is-hex-run-requires c κs = omega arith
-
-hex-rest-requires : tie.Need-hex-rest-requires Inv-loop μ-loop
-hex-rest-requires c κs = search needs
-
 returns-2 : tie.Need-returns-2 Inv-loop μ-loop
 returns-2 c = c .hex-rest .ensures ∙ c .before .before .before .before .loop .inv .1
-
-add-i : tie.Need-add-i Inv-loop μ-loop
-add-i c = omega arith
-
-loop-less : tie.Need-loop-less Inv-loop μ-loop
-loop-less c = omega arith
 
 loop-again : tie.Need-loop-again Inv-loop μ-loop
 loop-again c =
@@ -46,9 +28,6 @@ loop-again c =
     let inside : l .i + 16 ≤ length s = omega arith in
     let digits = c .before .is-hex-run .ensures .0 (not-false _ (c .if2 .left)) in
     (inside, end-steps isHexDigit s (l .i) 16 inside digits ∙ l .inv .1)
-
-hex-rest-requires-2 : tie.Need-hex-rest-requires-2 Inv-loop μ-loop
-hex-rest-requires-2 c κs = search needs
 
 returns-3 : tie.Need-returns-3 Inv-loop μ-loop
 returns-3 c = c .hex-rest2 .ensures ∙ c .before .before .loop .inv .1
@@ -60,13 +39,13 @@ hex-end-spec =
     Inv-loop
     μ-loop
     returns
-    loop-holds
-    sub-loop
-    is-hex-run-requires
-    hex-rest-requires
+    (λ c. (omega arith, refl))
+    (λ c. omega arith)
+    (λ c κs. omega arith)
+    (λ c κs. search needs)
     returns-2
-    add-i
-    loop-less
+    (λ c. omega arith)
+    (λ c. omega arith)
     loop-again
-    hex-rest-requires-2
+    (λ c κs. search needs)
     returns-3)

@@ -15,27 +15,12 @@ Inv-loop listing at i₀ i = End isHexDigit listing i ≡ End isHexDigit listing
 abbrev μ-loop : tie.MeasureT-loop
 μ-loop listing at i₀ i = length listing - i
 
-loop-holds : tie.Need-loop-holds Inv-loop μ-loop
-loop-holds c = refl
-
-shared-slice-read-is-hex-digit : tie.Need-shared-slice-read-is-hex-digit Inv-loop μ-loop
-shared-slice-read-is-hex-digit c = omega arith
-
-is-hex-digit-requires : tie.Need-is-hex-digit-requires Inv-loop μ-loop
-is-hex-digit-requires c κs = search needs
-
 returns : tie.Need-returns Inv-loop μ-loop
 returns c =
     let s = c .before .before .before .before .before .before .args .listing .now in
     let l = c .before .before .before .before .loop in
     let out = sym (c .before .is-hex-digit .ensures) ∙ not-true _ (c .if1 .taken) in
     end-stop isHexDigit s (l .i) (c .before .before .before .loop-test .taken) out ∙ l .inv
-
-add-i : tie.Need-add-i Inv-loop μ-loop
-add-i c = omega arith
-
-loop-less : tie.Need-loop-less Inv-loop μ-loop
-loop-less c = omega arith
 
 loop-again : tie.Need-loop-again Inv-loop μ-loop
 loop-again c =
@@ -56,11 +41,11 @@ hex-rest-spec =
     (tie.spec
     Inv-loop
     μ-loop
-    loop-holds
-    shared-slice-read-is-hex-digit
-    is-hex-digit-requires
+    (λ c. refl)
+    (λ c. omega arith)
+    (λ c κs. search needs)
     returns
-    add-i
-    loop-less
+    (λ c. omega arith)
+    (λ c. omega arith)
     loop-again
     returns-2)

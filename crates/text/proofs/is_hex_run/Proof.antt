@@ -19,21 +19,6 @@ abbrev μ-loop : tie.MeasureT-loop
 loop-holds : tie.Need-loop-holds Inv-loop μ-loop
 loop-holds c = (omega arith, every-none (λ j. isHexDigit (getD (c .before .args .listing .now) (c .before .args .at + j) 0)))
 
-add-is-hex-digit : tie.Need-add-is-hex-digit Inv-loop μ-loop
-add-is-hex-digit c = omega arith
-
-shared-slice-read-is-hex-digit : tie.Need-shared-slice-read-is-hex-digit Inv-loop μ-loop
-shared-slice-read-is-hex-digit c = omega arith
-
-is-hex-digit-requires : tie.Need-is-hex-digit-requires Inv-loop μ-loop
-is-hex-digit-requires c κs = search needs
-
-add-k : tie.Need-add-k Inv-loop μ-loop
-add-k c = omega arith
-
-loop-less : tie.Need-loop-less Inv-loop μ-loop
-loop-less c = omega arith
-
 loop-again : tie.Need-loop-again Inv-loop μ-loop
 loop-again c =
     let a = c .before .before .before .before .before .args in
@@ -50,10 +35,10 @@ is-hex-run-spec =
     Inv-loop
     μ-loop
     loop-holds
-    add-is-hex-digit
-    shared-slice-read-is-hex-digit
-    is-hex-digit-requires
-    add-k
-    loop-less
+    (λ c. omega arith)
+    (λ c. omega arith)
+    (λ c κs. search needs)
+    (λ c. omega arith)
+    (λ c. omega arith)
     loop-again
     returns)

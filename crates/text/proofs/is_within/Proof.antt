@@ -2,15 +2,11 @@ use borrow.Author.Tests.{le-leb, lt-leb}
 use Rattle.text.specs.Text.{within}
 use Rattle.text.proofs.is_within.Statement.{statement}
 use Rattle.text.proofs.is_within.Tie as tie
-use Rattle.text.proofs.is_within.Reads as reads
-use Rattle.text.proofs.is_within.Lts as lts
 
--- src/text.rt:47:9
 returns : tie.Need-returns
 unfolding within
 returns c = rw (le-leb _ _ (c .if1 .taken))
 
--- src/text.rt:43:1
 returns-2 : tie.Need-returns-2
 unfolding within
 returns-2 c = rw (lt-leb _ _ (c .if1 .left))

@@ -11,23 +11,11 @@ use Rattle.text.proofs.Told.{answer-got, answer-failed, skip-to, skip-f
 use Rattle.text.proofs.read_literal.Statement.{statement}
 use Rattle.text.proofs.read_literal.Tie as tie
 
-skip-requires : tie.Need-skip-requires
-skip-requires c κs = search needs
-
-enum-known-n : tie.Need-enum-known-n
-enum-known-n c = search needs
-
-enum-told : tie.Need-enum-told
-enum-told c = search needs
-
 returns : tie.Need-returns
 unfolding literal
 returns c =
     let a = c .before .before .before .before .args in
     answer-failed PlaceRead.Got PlaceRead.Failed literal (a .listing .now) (a .at) (skip-failed comma (span isHexDigit >>= λ x. guard (eqb (x .len % 2) 0) x) (a .listing .now) (a .at) (c .before .before .skip .ensures) (c .enum-told .given .1))
-
-hex-end-requires : tie.Need-hex-end-requires
-hex-end-requires c κs = search needs
 
 sub-len : tie.Need-sub-len
 sub-len c = omega (arith, end-run isHexDigit (c .before .before .before .before .before .before .args .listing .now) _ (c .hex-end .ensures) .0)
@@ -50,11 +38,11 @@ pub read-literal-spec : {M : Type 1} → statement M
 read-literal-spec =
     tie.close
     (tie.spec
-    skip-requires
-    enum-known-n
-    enum-told
+    (λ c κs. search needs)
+    (λ c. search needs)
+    (λ c. search needs)
     returns
-    hex-end-requires
+    (λ c κs. search needs)
     sub-len
     returns-2
     returns-3)

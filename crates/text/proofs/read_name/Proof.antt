@@ -11,23 +11,11 @@ use Rattle.text.proofs.Told.{answer-got, answer-failed, skip-to, skip-f
 use Rattle.text.proofs.read_name.Statement.{statement}
 use Rattle.text.proofs.read_name.Tie as tie
 
-skip-requires : tie.Need-skip-requires
-skip-requires c κs = search needs
-
-enum-known-n : tie.Need-enum-known-n
-enum-known-n c = search needs
-
-enum-told : tie.Need-enum-told
-enum-told c = search needs
-
 returns : tie.Need-returns
 unfolding name
 returns c =
     let a = c .before .before .before .before .args in
     answer-failed PlaceRead.Got PlaceRead.Failed name (a .listing .now) (a .at) (skip-failed comma (span isNameByte >>= λ x. guard (ltb 0 (x .len)) x) (a .listing .now) (a .at) (c .before .before .skip .ensures) (c .enum-told .given .1))
-
-name-end-requires : tie.Need-name-end-requires
-name-end-requires c κs = search needs
 
 sub-len : tie.Need-sub-len
 sub-len c = omega (arith, end-run isNameByte (c .before .before .before .before .before .before .args .listing .now) _ (c .name-end .ensures) .0)
@@ -50,11 +38,11 @@ pub read-name-spec : {M : Type 1} → statement M
 read-name-spec =
     tie.close
     (tie.spec
-    skip-requires
-    enum-known-n
-    enum-told
+    (λ c κs. search needs)
+    (λ c. search needs)
+    (λ c. search needs)
     returns
-    name-end-requires
+    (λ c κs. search needs)
     sub-len
     returns-2
     returns-3)

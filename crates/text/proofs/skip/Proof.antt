@@ -5,14 +5,6 @@ use Rattle.text.proofs.Fields.{byte-same, byte-other, byte-past}
 use borrow.Author.Needs.{needs}
 use Rattle.text.proofs.skip.Statement.{statement}
 use Rattle.text.proofs.skip.Tie as tie
-use Rattle.text.proofs.skip.Reads as reads
-use Rattle.text.proofs.skip.Lts as lts
-
-shared-slice-read-if2 : tie.Need-shared-slice-read-if2
-shared-slice-read-if2 c = search needs
-
-add-t9 : tie.Need-add-t9
-add-t9 c = search needs
 
 returns : tie.Need-returns
 unfolding readAt given
@@ -33,4 +25,4 @@ returns-3 c =
     sym (ap (given (λ x n. Skipped.To n) Skipped.Failed) (byte-past (a .b) (a .listing .now) (a .at) (c .if1 .left)))
 
 pub skip-spec : {M : Type 1} → statement M
-skip-spec = tie.close (tie.spec shared-slice-read-if2 add-t9 returns returns-2 returns-3)
+skip-spec = tie.close (tie.spec (λ c. search needs) (λ c. search needs) returns returns-2 returns-3)

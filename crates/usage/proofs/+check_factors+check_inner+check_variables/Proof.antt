@@ -17,10 +17,10 @@ use Rattle.nodes.specs.Stands.{ExpressionAt}
 use Rattle.usage.specs.declared.Parts.{Parts}
 use Rattle.usage.specs.declared.Parts.the-variants.{Named}
 use Rattle.rules.specs.Usage.{usageFactors}
-use Rattle.usage.specs.Path.{tableOf}
+use Rattle.paths.specs.Path.{tableOf}
 use Rattle.usage.specs.Walk.{SpellsExpressions, usageAll, PartsAre}
 use Rattle.nodes.proofs.Laws.{expression-holds, factor-holds, below}
-use Rattle.usage.proofs.Walks.{walk-is, walk-idle}
+use Rattle.paths.proofs.Walks.{walk-is, walk-idle}
 use Rattle.usage.proofs.Trees.{factor-parts, factors-series, expressions-series, Rest, rest-all, rest-done, rest-first, rest-fault, rest-more, rest-on, rest-few, rest-below, named-walk, named-inside, signed-walk, signed-stands}
 use borrow.Fn.Kinds.{In}
 use borrow.Fn.PlainCycle.{Measures, is, falls, and}
@@ -33,11 +33,11 @@ use Rattle.usage.proofs.+check_factors+check_inner+check_variables.Lts-
 use Rattle.usage.proofs.check_variables.Reads as check-variables
 use Rattle.usage.proofs.check_variables.Kinds as check-variables-kinds
 use Rattle.usage.proofs.+check_factors+check_inner+check_variables.Lts-check_variables as check-variables-lts
-use Rattle.limits.proofs.skip_factor.Reads as skip-factor-reads
+use Rattle.nodes.proofs.skip_factor.Reads as skip-factor-reads
 use Rattle.nodes.proofs.factor_at.Reads as factor-at-reads
 use Rattle.usage.proofs.parts_at.Reads as parts-at-reads
-use Rattle.usage.proofs.pass.Reads as pass-reads
-use Rattle.usage.proofs.take.Reads as take-reads
+use Rattle.paths.proofs.pass.Reads as pass-reads
+use Rattle.paths.proofs.take.Reads as take-reads
 use Rattle.usage.proofs.+check_factors+check_inner+check_variables.{statement}
 use Rattle.usage.proofs.+check_factors+check_inner+check_variables.Tie.{close}
 
@@ -133,35 +133,17 @@ check-factors-check-inner-requires t c κs =
     let r = c .before .loop .inv in
     (omega (arith, b .pre .0, r .on), (rest-first (factors-series (lineIn (c .before .before .before .before .args .table .now)) (c .before .before .before .before .args .listing .now)) r (c .loop-test .taken), r .sound))
 
-check-factors-enum-known-answer : (t : ℕ) → check-factors-lts.Need-enum-known-answer (factors-calls t) (check-factors-at t) check-factors.Post check-factors-Inv-loop check-factors-μ-loop
-check-factors-enum-known-answer t c = search needs
-
-check-factors-enum-told : (t : ℕ) → check-factors-lts.Need-enum-told (factors-calls t) (check-factors-at t) check-factors.Post check-factors-Inv-loop check-factors-μ-loop
-check-factors-enum-told t c = search needs
-
 check-factors-returns : (t : ℕ) → check-factors-lts.Need-returns (factors-calls t) (check-factors-at t) check-factors.Post check-factors-Inv-loop check-factors-μ-loop
 check-factors-returns t c = rest-fault (factors-series (lineIn (c .before .before .before .before .before .before .before .args .table .now)) (c .before .before .before .before .before .before .before .args .listing .now)) (c .before .before .before .before .loop .inv) (c .before .before .before .loop-test .taken) (c .before .before .check-inner .ensures) (c .enum-told .given .1)
 
-check-factors-sub-left : (t : ℕ) → check-factors-lts.Need-sub-left (factors-calls t) (check-factors-at t) check-factors.Post check-factors-Inv-loop check-factors-μ-loop
-check-factors-sub-left t c = omega arith
-
-check-factors-loop-less : (t : ℕ) → check-factors-lts.Need-loop-less (factors-calls t) (check-factors-at t) check-factors.Post check-factors-Inv-loop check-factors-μ-loop
-check-factors-loop-less t c = omega arith
-
 check-factors-loop-again : (t : ℕ) → check-factors-lts.Need-loop-again (factors-calls t) (check-factors-at t) check-factors.Post check-factors-Inv-loop check-factors-μ-loop
 check-factors-loop-again t c = rest-more (factors-series (lineIn (c .before .before .before .before .before .before .before .before .before .args .table .now)) (c .before .before .before .before .before .before .before .before .before .args .listing .now)) (c .before .before .before .before .before .before .loop .inv) (c .before .before .before .before .before .loop-test .taken) (c .before .before .before .before .check-inner .ensures) (c .before .before .answer .given .1)
-
-check-factors-pass-requires : (t : ℕ) → check-factors-lts.Need-pass-requires (factors-calls t) (check-factors-at t) check-factors.Post check-factors-Inv-loop check-factors-μ-loop
-check-factors-pass-requires t c κs = search needs
 
 check-factors-returns-2 : (t : ℕ) → check-factors-lts.Need-returns-2 (factors-calls t) (check-factors-at t) check-factors.Post check-factors-Inv-loop check-factors-μ-loop
 check-factors-returns-2 t c = rest-done (factors-series (lineIn (c .before .before .before .before .before .args .table .now)) (c .before .before .before .before .before .args .listing .now)) (c .before .before .loop .inv) (c .before .loop-test .left) (c .pass .ensures)
 
 check-inner-factor-at-requires : (t : ℕ) → check-inner-lts.Need-factor-at-requires (inner-calls t) (check-inner-at t) check-inner.Post
 check-inner-factor-at-requires t c κs = factor-holds (c .before .before .pre .1 .0)
-
-check-inner-enum-told : (t : ℕ) → check-inner-lts.Need-enum-told (inner-calls t) (check-inner-at t) check-inner.Post
-check-inner-enum-told t c = search needs
 
 check-inner-add-check-variables : (t : ℕ) → check-inner-lts.Need-add-check-variables (inner-calls t) (check-inner-at t) check-inner.Post
 check-inner-add-check-variables t c = omega (arith, factor-holds (c .before .before .before .before .before .pre .1 .0) .room)
@@ -175,14 +157,8 @@ check-inner-check-variables-requires t c κs =
     let p = factor-parts (lineIn tab) lis (st .spells) (c .before .before .factor-at .ensures) (c .enum-told .given .1) in
     (omega (arith, b .pre .0, factor-holds st .room), (below (SpellsExpressions (lineIn tab) lis 2) st {b = p .0} (p .1) (omega arith), b .pre .1 .1))
 
-check-inner-enum-told-2 : (t : ℕ) → check-inner-lts.Need-enum-told-2 (inner-calls t) (check-inner-at t) check-inner.Post
-check-inner-enum-told-2 t c = search needs
-
 check-inner-skip-factor-requires : (t : ℕ) → check-inner-lts.Need-skip-factor-requires (inner-calls t) (check-inner-at t) check-inner.Post
 check-inner-skip-factor-requires t c κs = (c .before .before .before .before .before .args .listing .now, c .before .before .before .before .before .pre .1 .0)
-
-check-inner-pass-requires : (t : ℕ) → check-inner-lts.Need-pass-requires (inner-calls t) (check-inner-at t) check-inner.Post
-check-inner-pass-requires t c κs = search needs
 
 check-inner-returns : (t : ℕ) → check-inner-lts.Need-returns (inner-calls t) (check-inner-at t) check-inner.Post
 check-inner-returns t c f j sp =
@@ -225,14 +201,8 @@ named t c w x h = let st = at-hand t c in parts-of t c (Named w x) h (st .tree) 
 check-variables-loop-holds : (t : ℕ) → check-variables-lts.Need-loop-holds (variables-calls t) (check-variables-at t) check-variables.Post check-variables-Inv-loop check-variables-μ-loop
 check-variables-loop-holds t c = rest-all (c .before .before .pre .1 .1) (c .before .before .pre .1 .0)
 
-check-variables-sub-due : (t : ℕ) → check-variables-lts.Need-sub-due (variables-calls t) (check-variables-at t) check-variables.Post check-variables-Inv-loop check-variables-μ-loop
-check-variables-sub-due t c = omega arith
-
 check-variables-parts-at-requires : (t : ℕ) → check-variables-lts.Need-parts-at-requires (variables-calls t) (check-variables-at t) check-variables.Post check-variables-Inv-loop check-variables-μ-loop
 check-variables-parts-at-requires t c κs = (c .before .before .before .before .args .listing .now, rest-first (expressions-series (lineIn (c .before .before .before .before .args .table .now)) (c .before .before .before .before .args .listing .now)) (c .before .loop .inv) (c .loop-test .taken))
-
-check-variables-enum-known-parts : (t : ℕ) → check-variables-lts.Need-enum-known-parts (variables-calls t) (check-variables-at t) check-variables.Post check-variables-Inv-loop check-variables-μ-loop
-check-variables-enum-known-parts t c = search needs
 
 check-variables-add-due : (t : ℕ) → check-variables-lts.Need-add-due (variables-calls t) (check-variables-at t) check-variables.Post check-variables-Inv-loop check-variables-μ-loop
 check-variables-add-due t c =
@@ -248,20 +218,11 @@ check-variables-loop-less t c =
 check-variables-loop-again : (t : ℕ) → check-variables-lts.Need-loop-again (variables-calls t) (check-variables-at t) check-variables.Post check-variables-Inv-loop check-variables-μ-loop
 check-variables-loop-again t c = rest-below (c .before .before .before .before .before .loop .inv) (c .before .before .before .before .loop-test .taken) _ _ (parts-of t (c .before .before .before) _ (c .before .parts .given .1))
 
-check-variables-enum-known-parts-2 : (t : ℕ) → check-variables-lts.Need-enum-known-parts-2 (variables-calls t) (check-variables-at t) check-variables.Post check-variables-Inv-loop check-variables-μ-loop
-check-variables-enum-known-parts-2 t c = search needs
-
 check-variables-take-requires : (t : ℕ) → check-variables-lts.Need-take-requires (variables-calls t) (check-variables-at t) check-variables.Post check-variables-Inv-loop check-variables-μ-loop
 check-variables-take-requires t c κs =
     let a = c .before .before .before .before .before .before .before .before .args in
     let st = at-hand t (c .before .before .before) in
     (named-inside (a .listing .now) (a .table .now) (c .before .before .before .before .before .loop .next) _ _ (named t (c .before .before .before) _ _ (c .before .parts2 .given .1)) st, c .before .before .before .before .before .loop .inv .sound, omega (arith, expression-on (lineIn (a .table .now)) (a .listing .now) (st .spells), st .within, st .rows .few))
-
-check-variables-enum-known-answer : (t : ℕ) → check-variables-lts.Need-enum-known-answer (variables-calls t) (check-variables-at t) check-variables.Post check-variables-Inv-loop check-variables-μ-loop
-check-variables-enum-known-answer t c = search needs
-
-check-variables-enum-told : (t : ℕ) → check-variables-lts.Need-enum-told (variables-calls t) (check-variables-at t) check-variables.Post check-variables-Inv-loop check-variables-μ-loop
-check-variables-enum-told t c = search needs
 
 check-variables-returns : (t : ℕ) → check-variables-lts.Need-returns (variables-calls t) (check-variables-at t) check-variables.Post check-variables-Inv-loop check-variables-μ-loop
 check-variables-returns t c = rest-fault (expressions-series (lineIn (c .before .before .before .before .before .before .before .before .before .before .before .args .table .now)) (c .before .before .before .before .before .before .before .before .before .before .before .args .listing .now)) (c .before .before .before .before .before .before .before .before .loop .inv) (c .before .before .before .before .before .before .before .loop-test .taken) (named-walk (c .before .before .before .before .before .before .before .before .before .before .before .args .listing .now) (c .before .before .before .before .before .before .before .before .before .before .before .args .table .now) (c .before .before .before .before .before .before .before .before .loop .next) _ _ (named t (c .before .before .before .before .before .before) _ _ (c .before .before .before .before .parts2 .given .1)) (c .before .before .take .ensures)) (c .enum-told .given .1)
@@ -274,21 +235,12 @@ check-variables-loop-less-2 t c =
 check-variables-loop-again-2 : (t : ℕ) → check-variables-lts.Need-loop-again-2 (variables-calls t) (check-variables-at t) check-variables.Post check-variables-Inv-loop check-variables-μ-loop
 check-variables-loop-again-2 t c = rest-more (expressions-series (lineIn (c .before .before .before .before .before .before .before .before .before .before .before .before .before .args .table .now)) (c .before .before .before .before .before .before .before .before .before .before .before .before .before .args .listing .now)) (c .before .before .before .before .before .before .before .before .before .before .loop .inv) (c .before .before .before .before .before .before .before .before .before .loop-test .taken) (named-walk (c .before .before .before .before .before .before .before .before .before .before .before .before .before .args .listing .now) (c .before .before .before .before .before .before .before .before .before .before .before .before .before .args .table .now) (c .before .before .before .before .before .before .before .before .before .before .loop .next) _ _ (named t (c .before .before .before .before .before .before .before .before) _ _ (c .before .before .before .before .before .before .parts2 .given .1)) (c .before .before .before .before .take .ensures)) (c .before .before .answer .given .1)
 
-check-variables-enum-known-parts-3 : (t : ℕ) → check-variables-lts.Need-enum-known-parts-3 (variables-calls t) (check-variables-at t) check-variables.Post check-variables-Inv-loop check-variables-μ-loop
-check-variables-enum-known-parts-3 t c = search needs
-
 check-variables-check-factors-requires : (t : ℕ) → check-variables-lts.Need-check-factors-requires (variables-calls t) (check-variables-at t) check-variables.Post check-variables-Inv-loop check-variables-μ-loop
 check-variables-check-factors-requires t c κs =
     let b = c .before .before .before .before .before .before .before .before in
     let st = at-hand t (c .before .before .before) in
     let f = signed-stands (b .args .listing .now) (b .args .table .now) (c .before .before .before .before .before .loop .next) _ _ (parts-of t (c .before .before .before) _ (c .before .parts3 .given .1)) st in
     (omega (arith, b .pre .0, c .before .before .before .before .before .loop .inv .on, expression-holds st .room, f .0), (f .1, c .before .before .before .before .before .loop .inv .sound))
-
-check-variables-enum-known-answer-2 : (t : ℕ) → check-variables-lts.Need-enum-known-answer-2 (variables-calls t) (check-variables-at t) check-variables.Post check-variables-Inv-loop check-variables-μ-loop
-check-variables-enum-known-answer-2 t c = search needs
-
-check-variables-enum-told-2 : (t : ℕ) → check-variables-lts.Need-enum-told-2 (variables-calls t) (check-variables-at t) check-variables.Post check-variables-Inv-loop check-variables-μ-loop
-check-variables-enum-told-2 t c = search needs
 
 check-variables-returns-2 : (t : ℕ) → check-variables-lts.Need-returns-2 (variables-calls t) (check-variables-at t) check-variables.Post check-variables-Inv-loop check-variables-μ-loop
 check-variables-returns-2 t c = rest-fault (expressions-series (lineIn (c .before .before .before .before .before .before .before .before .before .before .before .args .table .now)) (c .before .before .before .before .before .before .before .before .before .before .before .args .listing .now)) (c .before .before .before .before .before .before .before .before .loop .inv) (c .before .before .before .before .before .before .before .loop-test .taken) (signed-walk (c .before .before .before .before .before .before .before .before .before .before .before .args .listing .now) (c .before .before .before .before .before .before .before .before .before .before .before .args .table .now) (c .before .before .before .before .before .before .before .before .loop .next) _ _ (parts-of t (c .before .before .before .before .before .before) _ (c .before .before .before .before .parts3 .given .1)) (c .before .before .check-factors .ensures)) (c .enum-told2 .given .1)
@@ -300,9 +252,6 @@ check-variables-loop-less-3 t c =
 
 check-variables-loop-again-3 : (t : ℕ) → check-variables-lts.Need-loop-again-3 (variables-calls t) (check-variables-at t) check-variables.Post check-variables-Inv-loop check-variables-μ-loop
 check-variables-loop-again-3 t c = rest-more (expressions-series (lineIn (c .before .before .before .before .before .before .before .before .before .before .before .before .before .args .table .now)) (c .before .before .before .before .before .before .before .before .before .before .before .before .before .args .listing .now)) (c .before .before .before .before .before .before .before .before .before .before .loop .inv) (c .before .before .before .before .before .before .before .before .before .loop-test .taken) (signed-walk (c .before .before .before .before .before .before .before .before .before .before .before .before .before .args .listing .now) (c .before .before .before .before .before .before .before .before .before .before .before .before .before .args .table .now) (c .before .before .before .before .before .before .before .before .before .before .loop .next) _ _ (parts-of t (c .before .before .before .before .before .before .before .before) _ (c .before .before .before .before .before .before .parts3 .given .1)) (c .before .before .before .before .check-factors .ensures)) (c .before .before .answer2 .given .1)
-
-check-variables-pass-requires : (t : ℕ) → check-variables-lts.Need-pass-requires (variables-calls t) (check-variables-at t) check-variables.Post check-variables-Inv-loop check-variables-μ-loop
-check-variables-pass-requires t c κs = search needs
 
 check-variables-returns-3 : (t : ℕ) → check-variables-lts.Need-returns-3 (variables-calls t) (check-variables-at t) check-variables.Post check-variables-Inv-loop check-variables-μ-loop
 check-variables-returns-3 t c = rest-done (expressions-series (lineIn (c .before .before .before .before .before .args .table .now)) (c .before .before .before .before .before .args .listing .now)) (c .before .before .loop .inv) (c .before .loop-test .left) (c .pass .ensures)
@@ -316,24 +265,24 @@ pub +check-factors+check-inner+check-variables-spec : {M : Type 1} → statement
     check-factors-μ-loop
     (check-factors-loop-holds t)
     (check-factors-check-inner-requires t)
-    (check-factors-enum-known-answer t)
-    (check-factors-enum-told t)
+    (λ c. search needs)
+    (λ c. search needs)
     (check-factors-returns t)
-    (check-factors-sub-left t)
-    (check-factors-loop-less t)
+    (λ c. omega arith)
+    (λ c. omega arith)
     (check-factors-loop-again t)
-    (check-factors-pass-requires t)
+    (λ c κs. search needs)
     (check-factors-returns-2 t))
     (λ t. check-inner-lts.spec (inner-calls t)
     (check-inner-at t)
     check-inner.Post
     (check-inner-factor-at-requires t)
-    (check-inner-enum-told t)
+    (λ c. search needs)
     (check-inner-add-check-variables t)
     (check-inner-check-variables-requires t)
-    (check-inner-enum-told-2 t)
+    (λ c. search needs)
     (check-inner-skip-factor-requires t)
-    (check-inner-pass-requires t)
+    (λ c κs. search needs)
     (check-inner-returns t)
     (check-inner-returns-2 t))
     λ t. check-variables-lts.spec (variables-calls t)
@@ -342,25 +291,25 @@ pub +check-factors+check-inner+check-variables-spec : {M : Type 1} → statement
     check-variables-Inv-loop
     check-variables-μ-loop
     (check-variables-loop-holds t)
-    (check-variables-sub-due t)
+    (λ c. omega arith)
     (check-variables-parts-at-requires t)
-    (check-variables-enum-known-parts t)
+    (λ c. search needs)
     (check-variables-add-due t)
     (check-variables-loop-less t)
     (check-variables-loop-again t)
-    (check-variables-enum-known-parts-2 t)
+    (λ c. search needs)
     (check-variables-take-requires t)
-    (check-variables-enum-known-answer t)
-    (check-variables-enum-told t)
+    (λ c. search needs)
+    (λ c. search needs)
     (check-variables-returns t)
     (check-variables-loop-less-2 t)
     (check-variables-loop-again-2 t)
-    (check-variables-enum-known-parts-3 t)
+    (λ c. search needs)
     (check-variables-check-factors-requires t)
-    (check-variables-enum-known-answer-2 t)
-    (check-variables-enum-told-2 t)
+    (λ c. search needs)
+    (λ c. search needs)
     (check-variables-returns-2 t)
     (check-variables-loop-less-3 t)
     (check-variables-loop-again-3 t)
-    (check-variables-pass-requires t)
+    (λ c κs. search needs)
     (check-variables-returns-3 t)

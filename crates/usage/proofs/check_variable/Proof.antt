@@ -2,9 +2,9 @@ use native.Mathlib.Omega.{arith}
 use mathlib.Core.List.{[], _∷_}
 use Rattle.rows.specs.Rows.{lineIn}
 use Rattle.nodes.proofs.Laws.{below}
-use Rattle.usage.specs.Path.{tableOf}
+use Rattle.paths.specs.Path.{tableOf}
 use Rattle.usage.specs.Walk.{SpellsExpressions}
-use Rattle.usage.proofs.Walks.{walk-is}
+use Rattle.paths.proofs.Walks.{walk-is}
 use Rattle.usage.proofs.Trees.{one-all, spells-one}
 use Rattle.usage.proofs.check_variable.Statement.{statement}
 use Rattle.usage.proofs.check_variable.Tie as tie

@@ -8,9 +8,9 @@ use lib.ListN.{length}
 use Rattle.ast.specs.Tree.{Expression}
 use Rattle.rows.specs.Rows.{lineIn}
 use Rattle.reader.specs.Spells.{SpellsExpression}
-use Rattle.limits.specs.Nodes.{Node, expression, SpellsNodes, NodesAt}
-use Rattle.limits.specs.Somewhere.{Somewhere}
-use Rattle.limits.proofs.Nodes.{opened, nodes-more, nodes-none, one-expression, nodes-room, nodes-on, nodes-few}
+use Rattle.nodes.specs.Nodes.{Node, expression, SpellsNodes, NodesAt}
+use Rattle.nodes.specs.Somewhere.{Somewhere}
+use Rattle.nodes.proofs.Nodes.{opened, nodes-more, nodes-none, one-expression, nodes-room, nodes-kind, nodes-on, nodes-few}
 use Rattle.usage.specs.Names.{hasNames}
 use Rattle.usage.proofs.Names.{anyNames, first-name}
 use Rattle.usage.proofs.has_names.Statement.{statement}
@@ -41,11 +41,14 @@ returns c s e j sp =
 sub-due : tie.Need-sub-due Inv-loop μ-loop
 sub-due c = omega (arith, c .before .before .loop-test .taken)
 
-parts-below-requires : tie.Need-parts-below-requires Inv-loop μ-loop
-parts-below-requires c κs = nodes-room (c .before .before .before .loop .inv .0 .1) (c .before .before .loop-test .taken)
+operands-below-requires : tie.Need-operands-below-requires Inv-loop μ-loop
+operands-below-requires c κs =
+    let h = c .before .before .loop-test .taken in
+    let st = c .before .before .before .loop .inv .0 .1 in
+    (nodes-room st h, nodes-kind st h)
 
 add-due : tie.Need-add-due Inv-loop μ-loop
-add-due c = let l = c .before .before .before .before .loop in omega (arith, nodes-few (l .inv .0 .1) (c .before .before .before .loop-test .taken) (ap (λ m. l .due - 1 + m) (c .parts-below .ensures)))
+add-due c = let l = c .before .before .before .before .loop in omega (arith, nodes-few (l .inv .0 .1) (c .before .before .before .loop-test .taken) (ap (λ m. l .due - 1 + m) (c .operands-below .ensures)))
 
 add-next : tie.Need-add-next Inv-loop μ-loop
 add-next c = omega (arith, nodes-room (c .before .before .before .before .loop .inv .0 .1) (c .before .before .before .loop-test .taken))
@@ -57,7 +60,7 @@ loop-again : tie.Need-loop-again Inv-loop μ-loop
 loop-again c =
     let l = c .before .before .before .before .loop in
     let h = c .before .before .before .loop-test .taken in
-    let d = ap (λ m. l .due - 1 + m) (c .parts-below .ensures) in
+    let d = ap (λ m. l .due - 1 + m) (c .operands-below .ensures) in
     let L = lineIn (c .before .before .before .before .before .before .args .table .now) in (
       (l .inv .0 .0, nodes-on (l .inv .0 .1) h d),
       λ s e j sp.
@@ -81,7 +84,7 @@ has-names-spec =
     is-name-requires
     returns
     sub-due
-    parts-below-requires
+    operands-below-requires
     add-due
     add-next
     loop-less

@@ -3,11 +3,8 @@ use Rattle.usage.proofs.Names.{name-by}
 use Rattle.usage.proofs.is_name.Statement.{statement}
 use Rattle.usage.proofs.is_name.Tie as tie
 
-row-in-requires : tie.Need-row-in-requires
-row-in-requires c κs = search needs
-
 returns : tie.Need-returns
 returns c = name-by _ _ (c .before .row-in .ensures)
 
 pub is-name-spec : {M : Type 1} → statement M
-is-name-spec = tie.close (tie.spec row-in-requires returns)
+is-name-spec = tie.close (tie.spec (λ c κs. search needs) returns)

@@ -12,12 +12,6 @@ factor-at-requires c κs = factor-holds (c .before .pre .1)
 add-first : tie.Need-add-first
 add-first c = omega (arith, factor-holds (c .before .before .pre .1) .room)
 
-enum-told : tie.Need-enum-told
-enum-told c = search needs
-
-enum-known-line : tie.Need-enum-known-line
-enum-known-line c = search needs
-
 returns : tie.Need-returns
 returns c s f j sp =
     let b = c .before .before .before .before in
@@ -32,4 +26,4 @@ returns-2 c s f j sp =
 
 pub signatures-at-spec : {M : Type 1} → statement M
 signatures-at-spec =
-    tie.close (tie.spec factor-at-requires add-first enum-told enum-known-line returns returns-2)
+    tie.close (tie.spec factor-at-requires add-first (λ c. search needs) (λ c. search needs) returns returns-2)

@@ -1,10 +1,11 @@
 use native.Mathlib.Omega.{arith}
 use mathlib.Core.Path.{refl}
-use Rattle.ast.specs.declared.Checked.the-variants.{Ok, Err}
-use Rattle.rules.specs.Result.{ok, err, answer}
-use Rattle.analyze.specs.State.{tablesOf}
+use Rattle.rules.specs.Result.{ok, err}
+use Rattle.tables.specs.State.{tablesOf}
 use Rattle.output.proofs.Laws.{room-off}
 use Rattle.examiner.proofs.Reporting.{refusal-text, acceptance-text, no-room, may-write, has-room}
+use Rattle.examiner.specs.declared.Verdict.{Verdict}
+use Rattle.examiner.specs.Check.{verdict}
 use borrow.Author.Needs.{needs}
 use Rattle.examiner.proofs.report.report_acceptance.Statement.{statement}
 use Rattle.examiner.proofs.report.report_acceptance.Tie as tie
@@ -15,12 +16,6 @@ put-acceptance-requires c κs =
     let pre = c .before .before .before .before .pre in
     let ts = tablesOf (a .listing .now) (a .table .now) (a .d) (a .rows) (a .taken .now) in
     (pre .0, pre .1, room-off (omega arith))
-
-without-text-requires : tie.Need-without-text-requires
-without-text-requires c κs = search needs
-
-same-length : tie.Need-same-length
-same-length c = search needs
 
 returns : tie.Need-returns
 returns c =
@@ -36,25 +31,22 @@ put-acceptance-requires-2 c κs =
     let ts = tablesOf (a .listing .now) (a .table .now) (a .d) (a .rows) (a .taken .now) in
     (pre .0, pre .1, may-write (ok ts) _ (acceptance-text ts) (c .before .before .before .before .put-acceptance .ensures) (c .before .if1 .left) (omega arith))
 
-same-length-2 : tie.Need-same-length-2
-same-length-2 c = search needs
-
 returns-2 : tie.Need-returns-2
-unfolding answer
+unfolding verdict
 returns-2 c =
     let a = c .before .before .before .before .before .before .before .before .before .before .before .before .args in
     let pre = c .before .before .before .before .before .before .before .before .before .before .before .before .pre in
     let ts = tablesOf (a .listing .now) (a .table .now) (a .d) (a .rows) (a .taken .now) in
-    has-room (ok ts) _ (acceptance-text ts) (c .before .before .before .before .before .before .before .put-acceptance .ensures) Ok refl (c .before .before .before .before .if1 .left) (c .before .before .put-acceptance2 .ensures)
+    has-room (ok ts) _ (acceptance-text ts) (c .before .before .before .before .before .before .before .put-acceptance .ensures) Verdict.Accepted refl (c .before .before .before .before .if1 .left) (c .before .before .put-acceptance2 .ensures)
 
 pub report-acceptance-spec : {M : Type 1} → statement M
 report-acceptance-spec =
     tie.close
     (tie.spec
     put-acceptance-requires
-    without-text-requires
-    same-length
+    (λ c κs. search needs)
+    (λ c. search needs)
     returns
     put-acceptance-requires-2
-    same-length-2
+    (λ c. search needs)
     returns-2)

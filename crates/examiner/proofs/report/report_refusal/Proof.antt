@@ -1,9 +1,10 @@
 use native.Mathlib.Omega.{arith}
 use mathlib.Core.Path.{refl}
-use Rattle.ast.specs.declared.Checked.the-variants.{Ok, Err}
-use Rattle.rules.specs.Result.{ok, err, answer}
+use Rattle.rules.specs.Result.{ok, err}
 use Rattle.output.proofs.Laws.{room-off}
 use Rattle.examiner.proofs.Reporting.{refusal-text, acceptance-text, no-room, may-write, has-room}
+use Rattle.examiner.specs.declared.Verdict.{Verdict}
+use Rattle.examiner.specs.Check.{verdict}
 use borrow.Author.Needs.{needs}
 use Rattle.examiner.proofs.report.report_refusal.Statement.{statement}
 use Rattle.examiner.proofs.report.report_refusal.Tie as tie
@@ -12,12 +13,6 @@ put-refusal-requires : tie.Need-put-refusal-requires
 put-refusal-requires c κs =
     let a = c .before .before .args in
     room-off (omega arith)
-
-without-text-requires : tie.Need-without-text-requires
-without-text-requires c κs = search needs
-
-same-length : tie.Need-same-length
-same-length c = search needs
 
 returns : tie.Need-returns
 returns c =
@@ -29,23 +24,20 @@ put-refusal-requires-2 c κs =
     let a = c .before .before .before .before .before .before .before .args in
     may-write (err (a .x)) _ (refusal-text (a .x)) (c .before .before .before .before .put-refusal .ensures) (c .before .if1 .left) (omega arith)
 
-same-length-2 : tie.Need-same-length-2
-same-length-2 c = search needs
-
 returns-2 : tie.Need-returns-2
-unfolding answer
+unfolding verdict
 returns-2 c =
     let a = c .before .before .before .before .before .before .before .before .before .before .args in
-    has-room (err (a .x)) _ (refusal-text (a .x)) (c .before .before .before .before .before .before .before .put-refusal .ensures) (Err (a .x)) refl (c .before .before .before .before .if1 .left) (c .before .before .put-refusal2 .ensures)
+    has-room (err (a .x)) _ (refusal-text (a .x)) (c .before .before .before .before .before .before .before .put-refusal .ensures) (Verdict.Refused (a .x)) refl (c .before .before .before .before .if1 .left) (c .before .before .put-refusal2 .ensures)
 
 pub report-refusal-spec : {M : Type 1} → statement M
 report-refusal-spec =
     tie.close
     (tie.spec
     put-refusal-requires
-    without-text-requires
-    same-length
+    (λ c κs. search needs)
+    (λ c. search needs)
     returns
     put-refusal-requires-2
-    same-length-2
+    (λ c. search needs)
     returns-2)

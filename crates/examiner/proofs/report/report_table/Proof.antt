@@ -11,55 +11,34 @@ use borrow.Author.Needs.{needs}
 use Rattle.examiner.proofs.report.report_table.Statement.{statement}
 use Rattle.examiner.proofs.report.report_table.Tie as tie
 
-analyze-requires : tie.Need-analyze-requires
-analyze-requires c κs = search needs
-
-checked-in-requires : tie.Need-checked-in-requires
-checked-in-requires c κs = search needs
-
-enum-known-answer : tie.Need-enum-known-answer
-enum-known-answer c = search needs
-
-report-refusal-requires : tie.Need-report-refusal-requires
-report-refusal-requires c κs = search needs
-
-enum-told : tie.Need-enum-told
-enum-told c = search needs
-
 report-acceptance-requires : tie.Need-report-acceptance-requires
 report-acceptance-requires c κs =
     let pre = c .before .before .before .before .before .before .before .before .before .before .before .before .pre in
-    (found-tables (c .before .before .before .before .before .before .analyze .ensures (pre .0 .contract) (pre .0 .spells)) (c .before .before .before .before .checked-in .ensures) (c .before .before .enum-told .given .1) .0, pre .0 .rows .short)
-
-same-length : tie.Need-same-length
-same-length c = search needs
+    (found-tables (c .before .before .before .before .before .before .analyze .ensures (pre .0 .contract) (pre .0 .spells)) (c .before .before .before .before .verdict-in .ensures) (c .before .before .enum-told .given .1) .0, pre .0 .rows .short)
 
 returns : tie.Need-returns
 returns c =
     let out = c .before .before .before .before .before .before .before .before .before .before .before .before .before .before .before .args .output .now in
     let r = c .before .before .report-refusal .ensures in
-    (λ x sp. r .0 ∙ ap (λ (w : Result (List Table)). reported w (length out)) (found-fault (c .before .before .before .before .before .before .before .before .before .analyze .ensures x sp) (c .before .before .before .before .before .before .before .checked-in .ensures) _ (c .before .before .before .before .before .answer .given .1)), λ x sp. r .1 ∙ ap (λ (w : Result (List Table)). written (textOf w) out) (found-fault (c .before .before .before .before .before .before .before .before .before .analyze .ensures x sp) (c .before .before .before .before .before .before .before .checked-in .ensures) _ (c .before .before .before .before .before .answer .given .1)))
-
-same-length-2 : tie.Need-same-length-2
-same-length-2 c = search needs
+    (λ x sp. r .0 ∙ ap (λ (w : Result (List Table)). reported w (length out)) (found-fault (c .before .before .before .before .before .before .before .before .before .analyze .ensures x sp) (c .before .before .before .before .before .before .before .verdict-in .ensures) _ (c .before .before .before .before .before .answer .given .1)), λ x sp. r .1 ∙ ap (λ (w : Result (List Table)). written (textOf w) out) (found-fault (c .before .before .before .before .before .before .before .before .before .analyze .ensures x sp) (c .before .before .before .before .before .before .before .verdict-in .ensures) _ (c .before .before .before .before .before .answer .given .1)))
 
 returns-2 : tie.Need-returns-2
 returns-2 c =
     let out = c .before .before .before .before .before .before .before .before .before .before .before .before .before .before .before .args .output .now in
     let r = c .before .before .report-acceptance .ensures in
-    (λ x sp. r .0 ∙ ap (λ (w : Result (List Table)). reported w (length out)) (found-tables (c .before .before .before .before .before .before .before .before .before .analyze .ensures x sp) (c .before .before .before .before .before .before .before .checked-in .ensures) (c .before .before .before .before .before .enum-told .given .1) .1), λ x sp. r .1 ∙ ap (λ (w : Result (List Table)). written (textOf w) out) (found-tables (c .before .before .before .before .before .before .before .before .before .analyze .ensures x sp) (c .before .before .before .before .before .before .before .checked-in .ensures) (c .before .before .before .before .before .enum-told .given .1) .1))
+    (λ x sp. r .0 ∙ ap (λ (w : Result (List Table)). reported w (length out)) (found-tables (c .before .before .before .before .before .before .before .before .before .analyze .ensures x sp) (c .before .before .before .before .before .before .before .verdict-in .ensures) (c .before .before .before .before .before .enum-told .given .1) .1), λ x sp. r .1 ∙ ap (λ (w : Result (List Table)). written (textOf w) out) (found-tables (c .before .before .before .before .before .before .before .before .before .analyze .ensures x sp) (c .before .before .before .before .before .before .before .verdict-in .ensures) (c .before .before .before .before .before .enum-told .given .1) .1))
 
 pub report-table-spec : {M : Type 1} → statement M
 report-table-spec =
     tie.close
     (tie.spec
-    analyze-requires
-    checked-in-requires
-    enum-known-answer
-    report-refusal-requires
-    enum-told
+    (λ c κs. search needs)
+    (λ c κs. search needs)
+    (λ c. search needs)
+    (λ c κs. search needs)
+    (λ c. search needs)
     report-acceptance-requires
-    same-length
+    (λ c. search needs)
     returns
-    same-length-2
+    (λ c. search needs)
     returns-2)

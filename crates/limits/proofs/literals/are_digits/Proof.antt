@@ -15,23 +15,8 @@ Inv-loop listing at len i₀ left₀ i left = (i + left ≤ length listing) × (
 abbrev μ-loop : tie.MeasureT-loop
 μ-loop listing at len i₀ left₀ i left = left
 
-loop-holds : tie.Need-loop-holds Inv-loop μ-loop
-loop-holds c = (omega arith, refl)
-
-is-digit-run-requires : tie.Need-is-digit-run-requires Inv-loop μ-loop
-is-digit-run-requires c κs = omega arith
-
-digits-rest-requires : tie.Need-digits-rest-requires Inv-loop μ-loop
-digits-rest-requires c κs = omega arith
-
 returns : tie.Need-returns Inv-loop μ-loop
 returns c = c .digits-rest .ensures ∙ c .before .before .before .before .loop .inv .1
-
-add-i : tie.Need-add-i Inv-loop μ-loop
-add-i c = omega arith
-
-loop-less : tie.Need-loop-less Inv-loop μ-loop
-loop-less c = omega arith
 
 loop-again : tie.Need-loop-again Inv-loop μ-loop
 loop-again c =
@@ -39,9 +24,6 @@ loop-again c =
     let l = c .before .before .before .loop in
     let all = c .before .is-digit-run .ensures .0 (not-false _ (c .if1 .left)) .1 in
     (omega arith, digits-many s (l .i) (l .left) (l .inv .0) 16 (omega arith) (λ j h. digit-at s (l .i) 32 j (omega arith) (omega arith) all) ∙ l .inv .1)
-
-digits-rest-requires-2 : tie.Need-digits-rest-requires-2 Inv-loop μ-loop
-digits-rest-requires-2 c κs = omega arith
 
 returns-2 : tie.Need-returns-2 Inv-loop μ-loop
 returns-2 c = c .digits-rest2 .ensures ∙ c .before .before .loop .inv .1
@@ -52,12 +34,12 @@ are-digits-spec =
     (tie.spec
     Inv-loop
     μ-loop
-    loop-holds
-    is-digit-run-requires
-    digits-rest-requires
+    (λ c. (omega arith, refl))
+    (λ c κs. omega arith)
+    (λ c κs. omega arith)
     returns
-    add-i
-    loop-less
+    (λ c. omega arith)
+    (λ c. omega arith)
     loop-again
-    digits-rest-requires-2
+    (λ c κs. omega arith)
     returns-2)

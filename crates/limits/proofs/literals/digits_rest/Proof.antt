@@ -16,35 +16,11 @@ Inv-loop listing at len i₀ left₀ i left = (i + left ≤ length listing) × (
 abbrev μ-loop : tie.MeasureT-loop
 μ-loop listing at len i₀ left₀ i left = left
 
-loop-holds : tie.Need-loop-holds Inv-loop μ-loop
-loop-holds c = (omega arith, refl)
-
-shared-slice-read-is-spelled-digit : tie.Need-shared-slice-read-is-spelled-digit Inv-loop μ-loop
-shared-slice-read-is-spelled-digit c = omega arith
-
-add-is-spelled-digit : tie.Need-add-is-spelled-digit Inv-loop μ-loop
-add-is-spelled-digit c = omega arith
-
-shared-slice-read-is-spelled-digit-2 : tie.Need-shared-slice-read-is-spelled-digit-2 Inv-loop μ-loop
-shared-slice-read-is-spelled-digit-2 c = omega arith
-
-is-spelled-digit-requires : tie.Need-is-spelled-digit-requires Inv-loop μ-loop
-is-spelled-digit-requires c κs = search needs
-
 returns : tie.Need-returns Inv-loop μ-loop
 returns c =
     let l = c .before .before .before .before .before .loop in
     let s = c .before .before .before .before .before .before .before .args .listing .now in
     digits-none s (l .i) (l .left) (l .inv .0) (c .before .before .before .before .loop-test .taken) (c .before .is-spelled-digit .ensures) (not-true _ (c .if1 .taken)) ∙ l .inv .1
-
-add-i : tie.Need-add-i Inv-loop μ-loop
-add-i c = omega arith
-
-sub-left : tie.Need-sub-left Inv-loop μ-loop
-sub-left c = omega arith
-
-loop-less : tie.Need-loop-less Inv-loop μ-loop
-loop-less c = omega arith
 
 loop-again : tie.Need-loop-again Inv-loop μ-loop
 loop-again c =
@@ -61,14 +37,14 @@ digits-rest-spec =
     (tie.spec
     Inv-loop
     μ-loop
-    loop-holds
-    shared-slice-read-is-spelled-digit
-    add-is-spelled-digit
-    shared-slice-read-is-spelled-digit-2
-    is-spelled-digit-requires
+    (λ c. (omega arith, refl))
+    (λ c. omega arith)
+    (λ c. omega arith)
+    (λ c. omega arith)
+    (λ c κs. search needs)
     returns
-    add-i
-    sub-left
-    loop-less
+    (λ c. omega arith)
+    (λ c. omega arith)
+    (λ c. omega arith)
     loop-again
     returns-2)

@@ -7,23 +7,11 @@ use Rattle.limits.proofs.literals.hex_value.Tie as tie
 returns : tie.Need-returns
 returns c = let b = c .before .args .b in (omega (arith, low-digit b (omega (arith, c .if1 .taken))), omega arith)
 
-wide-requires : tie.Need-wide-requires
-wide-requires c κs = search needs
-
-sub-result : tie.Need-sub-result
-sub-result c = search needs
-
 returns-2 : tie.Need-returns-2
 returns-2 c = let b = c .before .before .before .args .b in (omega (arith, low-digit b (c .before .if2 .taken)), omega arith)
 
 returns-3 : tie.Need-returns-3
 returns-3 c = let b = c .before .before .before .args .b in (omega (arith, high-digit b (c .before .if2 .left)), omega arith)
-
-wide-requires-2 : tie.Need-wide-requires-2
-wide-requires-2 c κs = search needs
-
-sub-result-2 : tie.Need-sub-result-2
-sub-result-2 c = search needs
 
 returns-4 : tie.Need-returns-4
 returns-4 c = let b = c .before .before .before .before .args .b in (omega (arith, high-digit b (c .before .before .if2 .left)), omega arith)
@@ -33,10 +21,10 @@ hex-value-spec =
     tie.close
     (tie.spec
     returns
-    wide-requires
-    sub-result
+    (λ c κs. search needs)
+    (λ c. search needs)
     returns-2
     returns-3
-    wide-requires-2
-    sub-result-2
+    (λ c κs. search needs)
+    (λ c. search needs)
     returns-4)

@@ -18,36 +18,6 @@ abbrev μ-loop : tie.MeasureT-loop
 loop-holds : tie.Need-loop-holds Inv-loop μ-loop
 loop-holds c = (omega arith, every-none (Pair (c .before .args .listing .now) (c .before .args .at)))
 
-mul-is-digit-pair : tie.Need-mul-is-digit-pair Inv-loop μ-loop
-mul-is-digit-pair c = omega arith
-
-add-is-digit-pair : tie.Need-add-is-digit-pair Inv-loop μ-loop
-add-is-digit-pair c = omega arith
-
-shared-slice-read-is-digit-pair : tie.Need-shared-slice-read-is-digit-pair Inv-loop μ-loop
-shared-slice-read-is-digit-pair c = omega arith
-
-mul-is-digit-pair-2 : tie.Need-mul-is-digit-pair-2 Inv-loop μ-loop
-mul-is-digit-pair-2 c = omega arith
-
-add-is-digit-pair-2 : tie.Need-add-is-digit-pair-2 Inv-loop μ-loop
-add-is-digit-pair-2 c = omega arith
-
-add-is-digit-pair-3 : tie.Need-add-is-digit-pair-3 Inv-loop μ-loop
-add-is-digit-pair-3 c = omega arith
-
-shared-slice-read-is-digit-pair-2 : tie.Need-shared-slice-read-is-digit-pair-2 Inv-loop μ-loop
-shared-slice-read-is-digit-pair-2 c = omega arith
-
-is-digit-pair-requires : tie.Need-is-digit-pair-requires Inv-loop μ-loop
-is-digit-pair-requires c κs = search needs
-
-add-k : tie.Need-add-k Inv-loop μ-loop
-add-k c = omega arith
-
-loop-less : tie.Need-loop-less Inv-loop μ-loop
-loop-less c = omega arith
-
 loop-again : tie.Need-loop-again Inv-loop μ-loop
 loop-again c =
     let a = c .before .before .before .before .before .before .args in
@@ -70,15 +40,15 @@ is-digit-run-spec =
     Inv-loop
     μ-loop
     loop-holds
-    mul-is-digit-pair
-    add-is-digit-pair
-    shared-slice-read-is-digit-pair
-    mul-is-digit-pair-2
-    add-is-digit-pair-2
-    add-is-digit-pair-3
-    shared-slice-read-is-digit-pair-2
-    is-digit-pair-requires
-    add-k
-    loop-less
+    (λ c. omega arith)
+    (λ c. omega arith)
+    (λ c. omega arith)
+    (λ c. omega arith)
+    (λ c. omega arith)
+    (λ c. omega arith)
+    (λ c. omega arith)
+    (λ c κs. search needs)
+    (λ c. omega arith)
+    (λ c. omega arith)
     loop-again
     returns)

@@ -8,17 +8,8 @@ use Rattle.rules.proofs.Basics.{and-true}
 use Rattle.limits.proofs.literals.is_spelled_digit.Statement.{statement}
 use Rattle.limits.proofs.literals.is_spelled_digit.Tie as tie
 
-is-digit-pair-requires : tie.Need-is-digit-pair-requires
-is-digit-pair-requires c κs = search needs
-
 returns : tie.Need-returns
 returns c = let a = c .before .before .args in sym (and-true (isHexDigit (a .a) && isHexDigit (a .b)) (isDigit (hexValue (a .a) * 16 + hexValue (a .b))) (sym (c .before .is-digit-pair .ensures) ∙ c .if1 .taken) .1)
-
-byte-of-requires : tie.Need-byte-of-requires
-byte-of-requires c κs = search needs
-
-is-digit-requires : tie.Need-is-digit-requires
-is-digit-requires c κs = search needs
 
 returns-2 : tie.Need-returns-2
 returns-2 c = c .is-digit .ensures ∙ ap isDigit (c .before .byte-of .ensures)
@@ -26,4 +17,4 @@ returns-2 c = c .is-digit .ensures ∙ ap isDigit (c .before .byte-of .ensures)
 pub is-spelled-digit-spec : {M : Type 1} → statement M
 is-spelled-digit-spec =
     tie.close
-    (tie.spec is-digit-pair-requires returns byte-of-requires is-digit-requires returns-2)
+    (tie.spec (λ c κs. search needs) returns (λ c κs. search needs) (λ c κs. search needs) returns-2)

@@ -6,9 +6,6 @@ use Rattle.limits.proofs.literals.literal_length.Tie as tie
 returns : tie.Need-returns
 returns c = let a = c .before .before .before in odd-length (a .args .listing .now) (a .args .x) (a .pre) (c .if1 .taken)
 
-are-digits-requires : tie.Need-are-digits-requires
-are-digits-requires c κs = search needs
-
 returns-2 : tie.Need-returns-2
 returns-2 c = let a = c .before .before .before .before .before in hex-length (a .args .listing .now) (a .args .x) (a .pre) (c .before .before .if1 .left) (c .before .are-digits .ensures) (c .if2 .taken)
 
@@ -16,4 +13,4 @@ returns-3 : tie.Need-returns-3
 returns-3 c = let a = c .before .before .before .before .before in other-length (a .args .listing .now) (a .args .x) (a .pre) (c .before .before .if1 .left) (c .before .are-digits .ensures) (c .if2 .left)
 
 pub literal-length-spec : {M : Type 1} → statement M
-literal-length-spec = tie.close (tie.spec returns are-digits-requires returns-2 returns-3)
+literal-length-spec = tie.close (tie.spec returns (λ c κs. search needs) returns-2 returns-3)

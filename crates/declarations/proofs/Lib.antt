@@ -1,0 +1,4 @@
+pub mod Standing
+pub mod Declaring
+pub mod Looking
+mod Examples

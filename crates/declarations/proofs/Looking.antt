@@ -1,0 +1,118 @@
+-- An item looked up by its path and its position from the top.
+use Prim.Native.Nat.{ℕ, zero, suc, _+_, _-_, _≤_, _<_}
+use native.Mathlib.Omega.{arith}
+use mathlib.Core.Bool.{Bool, true, false}
+use mathlib.Core.List.{List, [], _∷_, map, reverse, reverseAux}
+use mathlib.Core.Option.{Option, some, none, Option·map}
+use mathlib.Core.Path.{_≡_, refl, sym, ap, ap₂, _∙_, subst}
+use borrow.Author.Tests.{ltb-true, ltb-false}
+use lib.Dec.{ltb}
+use lib.ListN.{getD, getElem?, length-reverse, List·getD-eq-default, List·getD-map}
+use Rattle.ast.specs.Tree.{StackParam}
+use Rattle.listing.specs.Kinds.{partOf}
+use Rattle.rows.specs.Rows.{lineIn}
+use Rattle.reader.specs.Ceilings.{maxLines}
+use Rattle.reader.specs.Reading.{item}
+use Rattle.reader.specs.Spells.{SpellsItems}
+use Rattle.names.specs.declared.Item.{Item}
+use Rattle.names.specs.Items.{lineOf, HoldsItem, Inside}
+use Rattle.declarations.specs.declared.Declared.{Declared}
+use Rattle.declarations.specs.declared.ItemFound.{ItemFound}
+use Rattle.declarations.specs.Noted.{declaredIn, wholeItem, Declares, itemAt, found}
+use Rattle.declarations.specs.Items.{ContractAt, DeclaredAs}
+use Rattle.declarations.proofs.Standing.{past, items-count, declarations-count, item-from-top}
+use Rattle.declarations.proofs.Declaring.{head-few, count-is, items-of, declared-as}
+
+-- ---- what stands at a position, of items that are kept in part
+
+reverse-map : {A B : Type 0} (f : A → B) (xs ys : List A) → reverseAux (map f xs) (map f ys) ≡ map f (reverseAux xs ys)
+reverse-map f [] ys = refl
+reverse-map f (x ∷ xs) ys = reverse-map f xs (x ∷ ys)
+
+element-map : {A B : Type 0} (f : A → B) (xs : List A) (k : ℕ) → getElem? (map f xs) k ≡ Option·map f (getElem? xs k)
+element-map f [] k = refl
+element-map f (x ∷ xs) zero = refl
+element-map f (x ∷ xs) (suc k) = element-map f xs k
+
+pub item-at-map : {A B : Type 0} (f : A → B) (ps : List (List A)) (path position : ℕ) → itemAt (map (map f) ps) path position ≡ Option·map f (itemAt ps path position)
+unfolding itemAt
+item-at-map f ps path position = ap (λ xs. getElem? (reverse xs) position) (List·getD-map (map f) ps path []) ∙ ap (λ xs. getElem? xs position) (reverse-map f (getD ps path []) []) ∙ element-map f (reverse (getD ps path [])) position
+
+-- ---- the answer
+
+pub found-none : {o : Option Item} → o ≡ none → ItemFound.Nothing ≡ found o
+unfolding found
+found-none e = sym (ap found e)
+
+pub found-some : {o : Option Item} {q : Item} → o ≡ some q → ItemFound.Item q ≡ found o
+unfolding found
+found-some e = sym (ap found e)
+
+-- a line holds one item
+same-item : {p q : Item} → lineOf p ≡ lineOf q → p ≡ q
+same-item {p} {q} e =
+    let l : p .loc ≡ q .loc = cc in
+    let t : p .ty ≡ q .ty = cc in
+    let n : p .name ≡ q .name = cc in
+    ap (λ l. wholeItem l (p .ty) (p .name)) l ∙ ap₂ (wholeItem (q .loc)) t n
+
+module _ {s t : List ℕ} {n : ℕ} (st : ContractAt s t n) {d : Declared} (e : d ≡ declaredIn (lineIn t)) where
+  own : DeclaredAs s t d (st .contract) n
+  own = declared-as st e (st .contract) (st .spells)
+
+  pub few-paths : d .count ≤ 32
+  few-paths = own .few
+
+  -- the rows of a path's items
+  module _ (path : ℕ) (lt : path < d .count) where
+    pub items-bound : getD (d .firsts) path 0 + getD (d .counts) path 0 ≤ maxLines
+    items-bound = omega (arith, own .items path lt .within, st .rows .few)
+
+    pub item-holds : (k : ℕ) → k < getD (d .counts) path 0 → HoldsItem t (getD (d .firsts) path 0 + (getD (d .counts) path 0 - 1 - k))
+    item-holds k below =
+        let a = item-from-top (lineIn t) StackParam (item s) (own .items path lt .spells) k below in
+        record { held = a .0; is = a .1; room = omega (arith, own .items path lt .within, st .rows .room) }
+
+  module _ {ps : List (List Item)} (h : Declares t ps) where
+    many : d .count ≡ h .count
+    many = count-is (lineIn t) Item wholeItem (h .header) (head-few st (h .header)) (h .spells) e
+
+    -- no such path
+    pub past-paths : (path k : ℕ) → d .count ≤ path → itemAt ps path k ≡ none
+    unfolding itemAt
+    past-paths path k le = ap (λ xs. getElem? (reverse xs) k) (List·getD-eq-default ps [] (omega (arith, many, declarations-count (lineIn t) Item wholeItem (h .spells))))
+
+    module _ (path : ℕ) (lt : path < d .count) where
+      items : SpellsItems (lineIn t) Item wholeItem (getD (d .counts) path 0) (getD (d .firsts) path 0) (getD ps path []) (getD (d .firsts) path 0 + getD (d .counts) path 0)
+      items = items-of (lineIn t) Item wholeItem (h .header) (head-few st (h .header)) (h .spells) e path (omega (arith, many))
+
+      -- no such position
+      pub past-items : (k : ℕ) → getD (d .counts) path 0 ≤ k → itemAt ps path k ≡ none
+      unfolding itemAt
+      past-items k le = past (reverse (getD ps path [])) k (omega (arith, length-reverse (getD ps path []), items-count (lineIn t) Item wholeItem items))
+
+      -- else the item of its row
+      pub item-here : (k : ℕ) → k < getD (d .counts) path 0 → {q : Item} → lineIn t (getD (d .firsts) path 0 + (getD (d .counts) path 0 - 1 - k)) ≡ lineOf q → itemAt ps path k ≡ some q
+      unfolding itemAt
+      item-here k below f = let a = item-from-top (lineIn t) Item wholeItem items k below in a .2 ∙ ap some (same-item (sym (a .1) ∙ f))
+
+    -- the name of an item lies in the listing
+    pub item-inside : (path k : ℕ) {q : Item} → itemAt ps path k ≡ some q → Inside s (q .name)
+    unfolding partOf
+    item-inside path k {q} f = declared (ltb path (d .count)) refl
+      where
+        absent : itemAt ps path k ≡ none → Inside s (q .name)
+        absent a = let z : none ≡ some q = sym a ∙ f in let o : _≡_ {A = ℕ} 0 1 = cc in absurd (omega arith)
+
+        inside : (lt : path < d .count) (b : Bool) → ltb k (getD (d .counts) path 0) ≡ b → Inside s (q .name)
+        inside lt false g = absent (past-items path lt k (ltb-false k (getD (d .counts) path 0) g))
+        inside lt true g =
+            let below = ltb-true k (getD (d .counts) path 0) g in
+            let a = item-from-top (lineIn t) StackParam (item s) (own .items path lt .spells) k below in
+            let z : some (a .0) ≡ some q = sym (item-here path lt k below (a .1)) ∙ f in
+            let same : a .0 ≡ q = cc in
+            subst (λ q. Inside s (q .name)) same (st .rows .parts (getD (d .firsts) path 0 + (getD (d .counts) path 0 - 1 - k)) (omega (arith, own .items path lt .within)) (a .0 .name) (ap partOf (a .1)))
+
+        declared : (b : Bool) → ltb path (d .count) ≡ b → Inside s (q .name)
+        declared false g = absent (past-paths path k (ltb-false path (d .count) g))
+        declared true g = inside (ltb-true path (d .count) g) (ltb k (getD (d .counts) path 0)) refl

@@ -1,0 +1,4 @@
+pub mod Tables
+pub mod Walks
+pub mod Unused
+pub mod Build

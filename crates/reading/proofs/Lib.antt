@@ -1,0 +1,3 @@
+mod Table
+mod Stored
+mod Answer

@@ -1,0 +1,5 @@
+pub mod State
+pub mod Building
+pub mod Leaving
+pub mod Counting
+pub mod Determined

@@ -1,4 +1,0 @@
-pub mod Bytes
-pub mod Compare
-pub mod Laws
-pub mod Leaves

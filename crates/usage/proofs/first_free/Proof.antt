@@ -1,9 +1,0 @@
-use Rattle.usage.proofs.Bits.{first-free}
-use Rattle.usage.proofs.first_free.Statement.{statement}
-use Rattle.usage.proofs.first_free.Tie as tie
-
-returns : tie.Need-returns
-returns c = first-free (c .args .taken) (c .fits .taken .fits)
-
-pub first-free-spec : {M : Type 1} → statement M
-first-free-spec = tie.close (tie.spec returns)
