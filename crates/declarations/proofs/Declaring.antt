@@ -25,7 +25,8 @@ use Rattle.nodes.specs.Stands.{Holds}
 use Rattle.declarations.specs.declared.Declared.{Declared}
 use Rattle.declarations.specs.Noted.{itemsSaid, afterItems, declarationRow, noted, declaredBy, declaredIn}
 use Rattle.declarations.specs.Items.{ContractAt, DeclaredAs}
-use Rattle.declarations.proofs.Standing.{head-said, said, row-more, declarations-count, At, declaration-at, declarations-end}
+use Rattle.reader.proofs.Items.{declarations-count}
+use Rattle.declarations.proofs.Standing.{head-said, said, row-more, At, declaration-at, declarations-end}
 
 -- ---- notes of declarations
 
@@ -138,7 +139,7 @@ module _ {s t : List ℕ} {n : ℕ} (st : ContractAt s t n) where
   pub declared-as : {d : Declared} → d ≡ declaredIn (lineIn t) → (c : Contract) → SpellsContract (lineIn t) s c n → DeclaredAs s t d c n
   declared-as {d} e c sp = record {
     target = target-is (lineIn t) StackParam (item s) (Q .header) few (Q .spells) e;
-    count = count ∙ sym (declarations-count (lineIn t) StackParam (item s) (Q .spells));
+    count = count ∙ sym (declarations-count (Q .spells));
     few = omega (arith, count, few);
     items = λ p lt. record { spells = items-of (lineIn t) StackParam (item s) (Q .header) few (Q .spells) e p (omega (arith, count)); few = items-few p (omega (arith, count)); within = omega (arith, items-within (lineIn t) StackParam (item s) (Q .header) few (Q .spells) e p (omega (arith, count)), block-on (lineIn t) s (Q .block)) };
     block = subst (λ i. SpellsBlock (lineIn t) s i (c .block) n) (sym (block-is (lineIn t) StackParam (item s) (Q .header) few (Q .spells) e)) (Q .block);

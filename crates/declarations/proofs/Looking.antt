@@ -20,7 +20,8 @@ use Rattle.declarations.specs.declared.Declared.{Declared}
 use Rattle.declarations.specs.declared.ItemFound.{ItemFound}
 use Rattle.declarations.specs.Noted.{declaredIn, wholeItem, Declares, itemAt, found}
 use Rattle.declarations.specs.Items.{ContractAt, DeclaredAs}
-use Rattle.declarations.proofs.Standing.{past, items-count, declarations-count, item-from-top}
+use Rattle.reader.proofs.Items.{items-count, declarations-count}
+use Rattle.declarations.proofs.Standing.{past, item-from-top}
 use Rattle.declarations.proofs.Declaring.{head-few, count-is, items-of, declared-as}
 
 -- ---- what stands at a position, of items that are kept in part
@@ -80,7 +81,7 @@ module _ {s t : List ℕ} {n : ℕ} (st : ContractAt s t n) {d : Declared} (e : 
     -- no such path
     pub past-paths : (path k : ℕ) → d .count ≤ path → itemAt ps path k ≡ none
     unfolding itemAt
-    past-paths path k le = ap (λ xs. getElem? (reverse xs) k) (List·getD-eq-default ps [] (omega (arith, many, declarations-count (lineIn t) Item wholeItem (h .spells))))
+    past-paths path k le = ap (λ xs. getElem? (reverse xs) k) (List·getD-eq-default ps [] (omega (arith, many, declarations-count (h .spells))))
 
     module _ (path : ℕ) (lt : path < d .count) where
       items : SpellsItems (lineIn t) Item wholeItem (getD (d .counts) path 0) (getD (d .firsts) path 0) (getD ps path []) (getD (d .firsts) path 0 + getD (d .counts) path 0)
@@ -89,7 +90,7 @@ module _ {s t : List ℕ} {n : ℕ} (st : ContractAt s t n) {d : Declared} (e : 
       -- no such position
       pub past-items : (k : ℕ) → getD (d .counts) path 0 ≤ k → itemAt ps path k ≡ none
       unfolding itemAt
-      past-items k le = past (reverse (getD ps path [])) k (omega (arith, length-reverse (getD ps path []), items-count (lineIn t) Item wholeItem items))
+      past-items k le = past (reverse (getD ps path [])) k (omega (arith, length-reverse (getD ps path []), items-count items))
 
       -- else the item of its row
       pub item-here : (k : ℕ) → k < getD (d .counts) path 0 → {q : Item} → lineIn t (getD (d .firsts) path 0 + (getD (d .counts) path 0 - 1 - k)) ≡ lineOf q → itemAt ps path k ≡ some q

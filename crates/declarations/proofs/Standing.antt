@@ -16,6 +16,7 @@ use Rattle.text.specs.declared.Place.{Place}
 use Rattle.listing.specs.declared.Line.{Line}
 use Rattle.reader.specs.Spells.{SpellsItems, SpellsDeclarations}
 use Rattle.reader.proofs.Agree.{declarations-on}
+use Rattle.reader.proofs.Items.{items-end, items-count}
 use Rattle.names.specs.declared.Item.{Item}
 use Rattle.names.specs.Items.{lineOf}
 use Rattle.declarations.specs.Noted.{headOf, itemsSaid, afterItems, rowPast, wholeItem}
@@ -53,19 +54,6 @@ row-more L i zero = refl
 row-more L i (suc p) = row-more L (afterItems L i) p
 
 module _ (L : ℕ → Line) (A : Type 0) (make : Location → ItemType → Place → A) where
-  -- items stand on one line each
-  items-end : {n i j : ℕ} {d : List A} → SpellsItems L A make n i d j → j ≡ i + n
-  items-end SpellsItems.nil = omega arith
-  items-end (SpellsItems.cons q r u) = omega (arith, items-end u)
-
-  pub items-count : {n i j : ℕ} {d : List A} → SpellsItems L A make n i d j → length d ≡ n
-  items-count SpellsItems.nil = refl
-  items-count (SpellsItems.cons q r u) = ap suc (items-count u)
-
-  pub declarations-count : {n i j : ℕ} {ds : List (List A)} → SpellsDeclarations L A make n i ds j → length ds ≡ n
-  declarations-count SpellsDeclarations.nil = refl
-  declarations-count (SpellsDeclarations.cons q u v) = ap suc (declarations-count v)
-
   after-items : {i j m : ℕ} {d : List A} → L i ≡ Line.Declaration m → SpellsItems L A make m (suc i) d j → j ≡ afterItems L i
   unfolding afterItems
   after-items q u = omega (arith, items-end u, said q)

@@ -16,6 +16,7 @@ use Rattle.listing.specs.Kinds.{partOf}
 use Rattle.rows.specs.Rows.{lineIn}
 use Rattle.reader.specs.Reading.{item}
 use Rattle.reader.specs.Spells.{SpellsItems}
+use Rattle.reader.proofs.Items.{items-end}
 use Rattle.rules.specs.Types.{typeOf}
 use Rattle.nodes.specs.Stands.{Rows}
 use Rattle.names.specs.declared.Item.{Item}
@@ -119,10 +120,6 @@ module _ (s t : List ℕ) where
 
   abbrev Spells : ℕ → ℕ → Declaration → ℕ → Type 0
   Spells n i d j = SpellsItems (lineIn t) StackParam (item s) n i d j
-
-  pub items-end : {n i j : ℕ} {d : Declaration} → Spells n i d j → j ≡ i + n
-  items-end SpellsItems.nil = omega arith
-  items-end (SpellsItems.cons q r u) = omega (arith, items-end u)
 
   down-last : (i n : ℕ) → itemsDown s t (suc i) n ++ (itemIn s t i ∷ []) ≡ itemsDown s t i (suc n)
   unfolding itemsDown

@@ -9,6 +9,16 @@ use Rattle.reader.specs.Parts.{countOf}
 use Rattle.reader.specs.Spells.{SpellsExpression, SpellsFactor}
 use Rattle.nodes.specs.Stands.{Stands}
 
+-- how many parts an expression or a factor has by its line; no other line counts
+abbrev pub operandsOf : Line → ℕ
+operandsOf (Line.Contract g n) = 0
+operandsOf (Line.Declaration n) = 0
+operandsOf (Line.StackParam w t x) = 0
+operandsOf (Line.Block n) = 0
+operandsOf (Line.Statement l) = 0
+operandsOf (Line.Expression l) = countOf (Line.Expression l)
+operandsOf (Line.Factor l) = countOf (Line.Factor l)
+
 -- n nodes of any kind from row i up to j: below a line stand as many as it has parts
 pub data Spans (L : ℕ → Line) : ℕ → ℕ → ℕ → Type 0 where
   nil : {i : ℕ} → Spans L zero i i

@@ -3,7 +3,7 @@ ghost use mathlib.Core.Path.{_≡_};
 ghost use mathlib.Core.List.{List};
 ghost use Prim.Native.Nat.{ℕ, _≤_};
 ghost use Rattle.listing.specs.declared.Line.{Line};
-ghost use Rattle.ast.specs.Tree.{Expression, Factor, Statement, Block, fault};
+ghost use Rattle.ast.specs.Tree.{Expression, Factor, Statement, Block, fault, loc};
 ghost use Rattle.rows.specs.Rows.{lineOf, lineIn, HasRow};
 ghost use Rattle.reader.specs.Parts.{factorKind, kindOf, countOf};
 ghost use Rattle.reader.specs.Spells.{SpellsExpression, SpellsFactor, SpellsStatement, SpellsStatements};
@@ -11,7 +11,7 @@ ghost use Rattle.nodes.specs.declared.Answer.{Answer};
 ghost use Rattle.nodes.specs.declared.Head.{Head};
 ghost use Rattle.nodes.specs.Stands.{Holds, ExpressionAt, FactorAt, StatementAt, StatementsAt};
 ghost use Rattle.nodes.specs.Somewhere.{Somewhere};
-ghost use Rattle.nodes.specs.Nodes.{Spans, Spanned};
+ghost use Rattle.nodes.specs.Nodes.{operandsOf, Spans, Spanned};
 use ast::CompileError;
 use ast::ErrorKind;
 use ast::Location;
@@ -140,6 +140,14 @@ pub fn contract_at(table: &[u32], i: usize) -> Head
     }
 }
 
+// The location of the expression at row i.
+pub fn loc_at(table: &[u32], i: usize) -> Location
+    requires { ⌜ HasRow (now table) i ⌝ }
+    ensures { λ r. ⌜ ((s : List ℕ) (e : Expression) (j : ℕ) → SpellsExpression (lineIn (now (table .entry))) s i e j → r ≡ loc e) ⌝ }
+{
+    place_in(row_in(table, i))
+}
+
 // How many operands the line of an expression has; a signature check has its factor.
 pub fn operand_count(line: ExpressionLine) -> u32
     ensures { λ r. ⌜ r ≡ countOf (Line.Expression line) ⌝ }
@@ -174,6 +182,25 @@ fn early_parts(r: Words) -> u32
     }
 }
 
+// How many parts the line of a row has, if it is an expression's or a factor's.
+fn operands_of(r: Words) -> u32
+    ensures { λ n. ⌜ n ≡ operandsOf (lineOf r) ⌝ }
+{
+    let kind = r.kind;
+    match kind {
+        letters::LOGIC => 2,
+        letters::COMPARE => 2,
+        letters::ARITHMETIC => 2,
+        letters::UNARY => 1,
+        letters::HASH => 1,
+        letters::SIZE => 1,
+        letters::SIGNATURES => 1,
+        letters::SINGLE => 2,
+        letters::MULTI => r.b,
+        _ => 0,
+    }
+}
+
 // How many parts the line of a row has. With the first letters apart, the others are told from each other by a few tests of bits, which is faster than
 // a jump by a table of all letters.
 fn row_parts(r: Words) -> u32
@@ -186,16 +213,7 @@ fn row_parts(r: Words) -> u32
     match kind {
         letters::CONTRACT => r.b,
         letters::VERIFY => 1,
-        letters::LOGIC => 2,
-        letters::COMPARE => 2,
-        letters::ARITHMETIC => 2,
-        letters::UNARY => 1,
-        letters::HASH => 1,
-        letters::SIZE => 1,
-        letters::SIGNATURES => 1,
-        letters::SINGLE => 2,
-        letters::MULTI => r.b,
-        _ => 0,
+        _ => operands_of(r),
     }
 }
 
@@ -212,20 +230,7 @@ pub fn operands_below(table: &[u32], i: usize) -> u32
     requires { ⌜ HasRow (now table) i × (kindOf (lineIn (now table) i) ≤ factorKind) ⌝ }
     ensures { λ r. ⌜ r ≡ countOf (lineIn (now (table .entry)) i) ⌝ }
 {
-    let r = row_in(table, i);
-    let kind = r.kind;
-    match kind {
-        letters::LOGIC => 2,
-        letters::COMPARE => 2,
-        letters::ARITHMETIC => 2,
-        letters::UNARY => 1,
-        letters::HASH => 1,
-        letters::SIZE => 1,
-        letters::SIGNATURES => 1,
-        letters::SINGLE => 2,
-        letters::MULTI => r.b,
-        _ => 0,
-    }
+    operands_of(row_in(table, i))
 }
 
 // The row after n nodes of any kind, one after the other. What stands below a line is counted among what is still due.

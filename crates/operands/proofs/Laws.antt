@@ -19,7 +19,7 @@ use Rattle.nodes.specs.declared.Answer.the-variants.{Pass, Fault}
 use Rattle.nodes.specs.Stands.{walked}
 use Rattle.nodes.proofs.Laws.{below, walked-pass, walked-fault}
 use Rattle.names.specs.Items.{ItemsAt}
-use Rattle.names.proofs.Laws.{items-end}
+use Rattle.reader.proofs.Items.{items-end}
 use Rattle.rules.specs.Types.{size, inner, inners}
 use Rattle.operands.specs.declared.Context.{Context}
 use Rattle.operands.specs.Typed.{Declares, Under, Answers, ExpressionUnder, Checks, Two, SpellsTwo, TwoUnder, ChecksTwo, FactorUnder, FactorsUnder, ChecksFactor, ChecksFactors}
@@ -58,7 +58,7 @@ module _ {s t : List ℕ} {p : Context} where
 module _ (s t : List ℕ) (p : Context) where
   -- some declaration is named
   pub declared : ItemsAt s t (p .count) (p .first) → (d : Declaration) × Declares s t p d
-  declared u = (u .tree, subst (λ j. SpellsItems (lineIn t) StackParam (item s) (p .count) (p .first) (u .tree) j) (items-end s t (u .spells)) (u .spells))
+  declared u = (u .tree, subst (λ j. SpellsItems (lineIn t) StackParam (item s) (p .count) (p .first) (u .tree) j) (items-end (u .spells)) (u .spells))
 
   -- a pass on a tree ends where the tree does
   passes : {A : Type 0} (R : ℕ → A → ℕ → Type 0) (rule : A → Target → List StackParam → Checked) (i n : ℕ) (r : Answer) → r ≡ Pass n → Answers R rule s t p i r → (e : A) (j : ℕ) (d : Declaration) → R i e j → Declares s t p d → (rule e (p .target) (fromTop d) ≡ Ok) × (j ≡ n)

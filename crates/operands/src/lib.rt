@@ -26,6 +26,7 @@ use names::find_item;
 use names::item_at;
 use nodes::Answer;
 use nodes::expression_at;
+use nodes::loc_at;
 use nodes::refuse;
 use text::Place;
 
@@ -132,15 +133,7 @@ pub fn leaf_at(listing: &[u8], table: &[u32], i: usize) -> Leaf
     match line {
         ExpressionLine::Variable(l, x) => Leaf::Named(l, x),
         ExpressionLine::StringLiteral(l, x, mark) => Leaf::Bytes(l, x, mark),
-        ExpressionLine::NumberLiteral(l, _) => Leaf::Other(l),
-        ExpressionLine::BooleanLiteral(l, _) => Leaf::Other(l),
-        ExpressionLine::LogicalExpression(l, _) => Leaf::Other(l),
-        ExpressionLine::CompareExpression(l, _) => Leaf::Other(l),
-        ExpressionLine::BinaryMathExpression(l, _) => Leaf::Other(l),
-        ExpressionLine::UnaryMathExpression(l, _) => Leaf::Other(l),
-        ExpressionLine::UnaryCryptoExpression(l, _) => Leaf::Other(l),
-        ExpressionLine::ByteExpression(l) => Leaf::Other(l),
-        ExpressionLine::CheckSigExpression(l) => Leaf::Other(l),
+        _ => Leaf::Other(loc_at(table, i)),
     }
 }
 

@@ -24,7 +24,7 @@ use Rattle.rules.specs.Types.{truth}
 use Rattle.rules.specs.Limits.{security}
 use Rattle.rules.specs.Walk.{examine}
 use Rattle.names.specs.Items.{ItemsAt, itemsDown}
-use Rattle.names.proofs.Laws.{items-end}
+use Rattle.reader.proofs.Items.{items-end}
 use Rattle.paths.specs.declared.Path.{Path}
 use Rattle.paths.specs.declared.Used.{Used}
 use Rattle.declarations.specs.declared.Declared.{Declared}
@@ -46,7 +46,7 @@ refused-walk {s} {t} u a e = record { result = ap (resultWith s t (u .path)) a �
 
 -- the declaration of a path, from its rows
 pub declares : {s t : List ℕ} {first count : ℕ} (I : ItemsAt s t count first) → SpellsItems (lineIn t) StackParam (item s) count first (I .tree) (first + count)
-declares {s} {t} {first} {count} I = subst (λ j. SpellsItems (lineIn t) StackParam (item s) count first (I .tree) j) (items-end s t (I .spells)) (I .spells)
+declares {s} {t} {first} {count} I = subst (λ j. SpellsItems (lineIn t) StackParam (item s) count first (I .tree) j) (items-end (I .spells)) (I .spells)
 
 module _ {s t : List ℕ} (g : Target) (e : Expression) {j first count : ℕ} {p : Path} (R : PathReady s t first count p) (u : Used) (w : Walked s t p (usage e (tableOf s t p)) j u) where
   -- usage refuses

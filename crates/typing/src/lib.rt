@@ -9,6 +9,7 @@ use ast::Type;
 use listing::ExpressionLine;
 use nodes::Answer;
 use nodes::expression_at;
+use nodes::loc_at;
 use nodes::refuse;
 use operands::Context;
 use operands::TypeFound;
@@ -37,14 +38,7 @@ pub fn check_type_string(listing: &[u8], table: &[u32], context: Context, i: usi
         ExpressionLine::UnaryCryptoExpression(_, _) => {
             check_type_crypto_operand(listing, table, context, next)
         }
-        ExpressionLine::NumberLiteral(l, _) => refuse(ErrorKind::InvalidOperation, l),
-        ExpressionLine::BooleanLiteral(l, _) => refuse(ErrorKind::InvalidOperation, l),
-        ExpressionLine::LogicalExpression(l, _) => refuse(ErrorKind::InvalidOperation, l),
-        ExpressionLine::CompareExpression(l, _) => refuse(ErrorKind::InvalidOperation, l),
-        ExpressionLine::BinaryMathExpression(l, _) => refuse(ErrorKind::InvalidOperation, l),
-        ExpressionLine::UnaryMathExpression(l, _) => refuse(ErrorKind::InvalidOperation, l),
-        ExpressionLine::ByteExpression(l) => refuse(ErrorKind::InvalidOperation, l),
-        ExpressionLine::CheckSigExpression(l) => refuse(ErrorKind::InvalidOperation, l),
+        _ => refuse(ErrorKind::InvalidOperation, loc_at(table, i)),
     }
 }
 
@@ -71,12 +65,7 @@ pub fn check_type_numeric(listing: &[u8], table: &[u32], context: Context, i: us
             check_type_numeric(listing, table, context, next)
         }
         ExpressionLine::ByteExpression(_) => check_type(listing, table, context, i),
-        ExpressionLine::BooleanLiteral(l, _) => refuse(ErrorKind::InvalidOperation, l),
-        ExpressionLine::StringLiteral(l, _, _) => refuse(ErrorKind::InvalidOperation, l),
-        ExpressionLine::LogicalExpression(l, _) => refuse(ErrorKind::InvalidOperation, l),
-        ExpressionLine::CompareExpression(l, _) => refuse(ErrorKind::InvalidOperation, l),
-        ExpressionLine::UnaryCryptoExpression(l, _) => refuse(ErrorKind::InvalidOperation, l),
-        ExpressionLine::CheckSigExpression(l) => refuse(ErrorKind::InvalidOperation, l),
+        _ => refuse(ErrorKind::InvalidOperation, loc_at(table, i)),
     }
 }
 
@@ -110,9 +99,7 @@ pub fn check_type_boolean(listing: &[u8], table: &[u32], context: Context, i: us
         ExpressionLine::ByteExpression(l) => {
             then_refuse(check_type_numeric(listing, table, context, i), l)
         }
-        ExpressionLine::NumberLiteral(l, _) => refuse(ErrorKind::InvalidOperation, l),
-        ExpressionLine::StringLiteral(l, _, _) => refuse(ErrorKind::InvalidOperation, l),
-        ExpressionLine::UnaryCryptoExpression(l, _) => refuse(ErrorKind::InvalidOperation, l),
+        _ => refuse(ErrorKind::InvalidOperation, loc_at(table, i)),
     }
 }
 
@@ -135,15 +122,7 @@ pub fn check_type_crypto_operand(
         ExpressionLine::UnaryCryptoExpression(_, _) => {
             check_type_crypto_operand(listing, table, context, next)
         }
-        ExpressionLine::NumberLiteral(_, _) => check_type(listing, table, context, i),
-        ExpressionLine::BooleanLiteral(_, _) => check_type(listing, table, context, i),
-        ExpressionLine::StringLiteral(_, _, _) => check_type(listing, table, context, i),
-        ExpressionLine::LogicalExpression(_, _) => check_type(listing, table, context, i),
-        ExpressionLine::CompareExpression(_, _) => check_type(listing, table, context, i),
-        ExpressionLine::BinaryMathExpression(_, _) => check_type(listing, table, context, i),
-        ExpressionLine::UnaryMathExpression(_, _) => check_type(listing, table, context, i),
-        ExpressionLine::ByteExpression(_) => check_type(listing, table, context, i),
-        ExpressionLine::CheckSigExpression(_) => check_type(listing, table, context, i),
+        _ => check_type(listing, table, context, i),
     }
 }
 

@@ -6,6 +6,8 @@ use native.Mathlib.Omega.{arith}
 use mathlib.Core.Bool.{false}
 use mathlib.Core.List.{List, [], _∷_, _++_}
 use mathlib.Core.Path.{_≡_, refl, sym, ap, _∙_, subst}
+use denote.Enum.Declared.{tagOf}
+use types.Run.{OneOf, miss}
 use Rattle.ast.specs.declared.Location.{Location}
 use Rattle.ast.specs.declared.CompileError.{CompileError}
 use Rattle.ast.specs.Tree.{Expression, Factor, Factors}
@@ -15,7 +17,9 @@ use Rattle.listing.specs.Kinds.{partOf}
 use Rattle.listing.specs.declared.ExpressionLine.{ExpressionLine}
 use Rattle.listing.specs.declared.FactorLine.{FactorLine}
 use Rattle.listing.specs.declared.Line.{Line}
+use Rattle.listing.proofs.ExpressionLine.{the-type}
 use Rattle.rows.specs.Rows.{lineIn}
+use Rattle.reader.specs.Parts.{countOf}
 use Rattle.reader.specs.Ceilings.{maxLines}
 use Rattle.reader.specs.Spells.{SpellsExpression, SpellsFactor, SpellsFactors}
 use Rattle.reader.proofs.Inversion.{ExpressionFrom, FactorFrom}
@@ -121,6 +125,20 @@ module _ (L : ℕ → Line) (s : List ℕ) where
 
   pub parts-are : {i j : ℕ} {e : Expression} {x y : ExpressionLine} → SpellsExpression L s i e j → L i ≡ Line.Expression x → x ≡ y → LineParts y i (i + 1) e j
   parts-are {i} {j} {e} {x} {y} sp h r = subst (λ y. LineParts y i (i + 1) e j) r (subst (λ n. LineParts x i n e j) (sym (add-one i)) (line-parts i j e x h (expression-is sp h)))
+
+  -- where neither a name nor a signature check stands, as many expressions as the line has parts
+  pub parts-counted : {i j n : ℕ} {e : Expression} (x : ExpressionLine) → OneOf (1 ∷ 2 ∷ 3 ∷ 4 ∷ 5 ∷ 6 ∷ 7 ∷ 8 ∷ 9 ∷ []) (tagOf the-type x) → SpellsExpression L s i e j → L i ≡ Line.Expression x → n ≡ countOf (Line.Expression x) → PartsAre L s i e j (Expressions n (i + 1))
+  parts-counted (ExpressionLine.Variable w x) h sp q c = absurd (miss (1 ∷ 2 ∷ 3 ∷ 4 ∷ 5 ∷ 6 ∷ 7 ∷ 8 ∷ 9 ∷ []) 0 tt h)
+  parts-counted (ExpressionLine.NumberLiteral w v) h sp q c = rw c (parts-are sp q refl)
+  parts-counted (ExpressionLine.BooleanLiteral w b) h sp q c = rw c (parts-are sp q refl)
+  parts-counted (ExpressionLine.StringLiteral w x m) h sp q c = rw c (parts-are sp q refl)
+  parts-counted (ExpressionLine.LogicalExpression w o) h sp q c = rw c (parts-are sp q refl)
+  parts-counted (ExpressionLine.CompareExpression w o) h sp q c = rw c (parts-are sp q refl)
+  parts-counted (ExpressionLine.BinaryMathExpression w o) h sp q c = rw c (parts-are sp q refl)
+  parts-counted (ExpressionLine.UnaryMathExpression w o) h sp q c = rw c (parts-are sp q refl)
+  parts-counted (ExpressionLine.UnaryCryptoExpression w o) h sp q c = rw c (parts-are sp q refl)
+  parts-counted (ExpressionLine.ByteExpression w) h sp q c = rw c (parts-are sp q refl)
+  parts-counted (ExpressionLine.CheckSigExpression w) h sp q c = absurd (miss (1 ∷ 2 ∷ 3 ∷ 4 ∷ 5 ∷ 6 ∷ 7 ∷ 8 ∷ 9 ∷ []) 10 tt h)
 
   -- the parts of a signature check are its factor's
   pub signed-parts : (i j : ℕ) (e : Expression) (f : Factor) → ((t : Table) → usage e t ≡ usageFactor f t) → (o : Parts) → FactorParts L s (i + 1) f j o → PartsAre L s i e j o

@@ -18,6 +18,7 @@ use listing::letters;
 use nodes::Answer;
 use nodes::expression_at;
 use nodes::factor_at;
+use nodes::operand_count;
 use nodes::operands_below;
 use nodes::skip_factor;
 use paths::Path;
@@ -57,16 +58,8 @@ fn parts_at(table: &[u32], i: usize) -> Parts
     let first = i + 1;
     match line {
         ExpressionLine::Variable(loc, x) => Parts::Named(loc, x),
-        ExpressionLine::NumberLiteral(_, _) => Parts::Expressions(0, first),
-        ExpressionLine::BooleanLiteral(_, _) => Parts::Expressions(0, first),
-        ExpressionLine::StringLiteral(_, _, _) => Parts::Expressions(0, first),
-        ExpressionLine::LogicalExpression(_, _) => Parts::Expressions(2, first),
-        ExpressionLine::CompareExpression(_, _) => Parts::Expressions(2, first),
-        ExpressionLine::BinaryMathExpression(_, _) => Parts::Expressions(2, first),
-        ExpressionLine::UnaryMathExpression(_, _) => Parts::Expressions(1, first),
-        ExpressionLine::UnaryCryptoExpression(_, _) => Parts::Expressions(1, first),
-        ExpressionLine::ByteExpression(_) => Parts::Expressions(1, first),
         ExpressionLine::CheckSigExpression(_) => signatures_at(table, first),
+        _ => Parts::Expressions(operand_count(line), first),
     }
 }
 

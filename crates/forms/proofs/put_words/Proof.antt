@@ -1,4 +1,4 @@
-use native.Mathlib.Numerals.{towards-suc}
+use native.Mathlib.Numerals.{towards-numerals}
 use native.Mathlib.Omega.{arith}
 use borrow.Author.Needs.{needs}
 use lib.ListN.{length-set}
@@ -37,5 +37,5 @@ put-words-spec =
     (λ c. search needs)
     (λ c. search needs)
     (λ c. simp length-set (omega arith))
-    (λ c. search needs)
-    (λ c. simp towards-suc))
+    (λ c. simp length-set)
+    (λ c. simp towards-numerals))

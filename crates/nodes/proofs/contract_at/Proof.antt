@@ -2,7 +2,7 @@ use mathlib.Core.Path.{refl}
 use borrow.Author.Needs.{needs}
 use Rattle.listing.specs.Kinds.{contractLine}
 use Rattle.nodes.proofs.Laws.{line-of}
-use Rattle.nodes.proofs.Letters.{contract-row}
+use Rattle.rows.proofs.Forms.{contract-row}
 use Rattle.nodes.proofs.contract_at.Statement.{statement}
 use Rattle.nodes.proofs.contract_at.Tie as tie
 

@@ -2,7 +2,7 @@ use mathlib.Core.Path.{refl}
 use borrow.Author.Needs.{needs}
 use Rattle.listing.specs.Kinds.{declarationLine}
 use Rattle.nodes.proofs.Laws.{line-of}
-use Rattle.nodes.proofs.Letters.{declaration-row}
+use Rattle.rows.proofs.Forms.{declaration-row}
 use Rattle.nodes.proofs.declaration_at.Statement.{statement}
 use Rattle.nodes.proofs.declaration_at.Tie as tie
 

@@ -2,7 +2,8 @@ use Prim.Native.Nat.{_+_, _-_, _≤_, _<_}
 use native.Mathlib.Omega.{arith}
 use mathlib.Core.Path.{sym, _∙_}
 use borrow.Author.Needs.{needs}
-use Rattle.names.proofs.Laws.{items-end, items-named, name-inside}
+use Rattle.reader.proofs.Items.{items-end}
+use Rattle.names.proofs.Laws.{items-named, name-inside}
 use Rattle.paths.proofs.Build.{Building, build-start, build-done, build-twice, build-more, at-count}
 use Rattle.paths.proofs.build_symbol_table.Statement.{statement}
 use Rattle.paths.proofs.build_symbol_table.Tie as tie
@@ -33,7 +34,7 @@ returns c =
     build-twice (c .before .before .before .before .before .before .loop .inv .1) (c .before .before .before .before .before .loop-test .taken) (it .result) (it .ensures) (sym (c .before .enum-told .given .1) ∙ c .before .before .before .find-place .ensures) (c .refuse .ensures)
 
 cast-t18 : tie.Need-cast-t18 Inv-loop μ-loop
-cast-t18 c = let st = c .before .before .before .before .before .before .before .before .before .pre .0 in omega (arith, items-end (c .before .before .before .before .before .before .before .before .before .args .listing .now) (c .before .before .before .before .before .before .before .before .before .args .table .now) (st .spells), st .within, st .rows .few)
+cast-t18 c = let st = c .before .before .before .before .before .before .before .before .before .pre .0 in omega (arith, items-end (st .spells), st .within, st .rows .few)
 
 -- there is room for one more
 below : (c : tie.At-match-keys2 Inv-loop μ-loop) → c .before .before .before .before .loop .k < 32
@@ -54,7 +55,7 @@ loop-again c =
     (omega arith, at-count (l .path) (b .args .first + (b .args .count - 1 - l .k)) (l .inv .1 .entries) more)
 
 add-pass : tie.Need-add-pass Inv-loop μ-loop
-add-pass c = let st = c .before .before .before .before .before .pre .0 in omega (arith, items-end (c .before .before .before .before .before .args .listing .now) (c .before .before .before .before .before .args .table .now) (st .spells), st .within, st .rows .few)
+add-pass c = let st = c .before .before .before .before .before .pre .0 in omega (arith, items-end (st .spells), st .within, st .rows .few)
 
 returns-2 : tie.Need-returns-2 Inv-loop μ-loop
 returns-2 c = build-done (c .before .before .loop .inv .1) (c .before .loop-test .left) (c .pass .ensures)

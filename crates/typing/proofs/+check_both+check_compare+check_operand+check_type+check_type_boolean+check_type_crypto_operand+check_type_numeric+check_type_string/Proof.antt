@@ -21,7 +21,9 @@ use Rattle.rules.specs.Result.{both, refused}
 use Rattle.rules.specs.Types.{ascii, factor, unary, string, number, truth, hashed, general}
 use Rattle.operands.specs.Typed.{ruleOf, wants, compareTwo}
 use Rattle.operands.proofs.Laws.{row-low, operand, operands, left-under, right-under, two-fault, two-pass, turn, leaf, by-operand, by-two}
+use Rattle.nodes.proofs.Others.{others}
 use Rattle.typing.proofs.Compare.{compare-unknown, compare-sorted}
+use Rattle.typing.proofs.Others.{Refuses, ByGeneral, refused-here, not-strings, string-refuses, not-numbers, number-refuses, not-truths, truth-refuses, no-hashes, hashed-general}
 use Rattle.typing.proofs.check_both.Reads as check-both
 use Rattle.typing.proofs.check_both.Kinds as check-both-kinds
 use Rattle.typing.proofs.+check_both+check_compare+check_operand+check_type+check_type_boolean+check_type_crypto_operand+check_type_numeric+check_type_string.Lts-check_both as check-both-lts
@@ -47,6 +49,7 @@ use Rattle.typing.proofs.check_type_string.Reads as check-type-string
 use Rattle.typing.proofs.check_type_string.Kinds as check-type-string-kinds
 use Rattle.typing.proofs.+check_both+check_compare+check_operand+check_type+check_type_boolean+check_type_crypto_operand+check_type_numeric+check_type_string.Lts-check_type_string as check-type-string-lts
 use Rattle.nodes.proofs.expression_at.Reads as expression-at-reads
+use Rattle.nodes.proofs.loc_at.Reads as loc-at-reads
 use Rattle.nodes.proofs.refuse.Reads as refuse-reads
 use Rattle.operands.proofs.is_not.Reads as is-not-reads
 use Rattle.operands.proofs.check_ascii.Reads as check-ascii-reads
@@ -321,7 +324,7 @@ check-type-returns-12 t c e j d sp q = by-operand _ _ _ _ _ d _ q (λ e. general
 
 abbrev check-type-boolean-calls : ℕ → check-type-boolean-lts.Claims
 check-type-boolean-calls t =
-    (expression-at-reads.Asked, expression-at-reads.Learnt, check-variable-type-reads.Asked, check-variable-type-reads.Learnt, check-both-below t, check-both.Post, check-type-below t, check-type.Post, is-not-reads.Asked, is-not-reads.Learnt, check-type-boolean-below t, check-type-boolean.Post, check-type-numeric-below t, check-type-numeric.Post, then-refuse-reads.Asked, then-refuse-reads.Learnt, refuse-reads.Asked, refuse-reads.Learnt)
+    (expression-at-reads.Asked, expression-at-reads.Learnt, check-variable-type-reads.Asked, check-variable-type-reads.Learnt, check-both-below t, check-both.Post, check-type-below t, check-type.Post, is-not-reads.Asked, is-not-reads.Learnt, check-type-boolean-below t, check-type-boolean.Post, check-type-numeric-below t, check-type-numeric.Post, then-refuse-reads.Asked, then-refuse-reads.Learnt, loc-at-reads.Asked, loc-at-reads.Learnt, refuse-reads.Asked, refuse-reads.Learnt)
 
 check-type-boolean-expression-at-requires : (t : ℕ) → check-type-boolean-lts.Need-expression-at-requires (check-type-boolean-calls t) (check-type-boolean-at t) check-type-boolean.Post
 check-type-boolean-expression-at-requires t c κs = expression-holds (c .before .before .pre .1 .node)
@@ -402,17 +405,11 @@ check-type-boolean-returns-9 : (t : ℕ) → check-type-boolean-lts.Need-returns
 unfolding truth number unary
 check-type-boolean-returns-9 t c e j d sp q = turn (λ e. both (number e (c .before .before .before .before .before .before .before .before .args .context .target) (fromTop d)) (refused InvalidOperation (c .before .before .before .line4 .given .0 .0))) (λ e. truth e (c .before .before .before .before .before .before .before .before .args .context .target) (fromTop d)) j (expression-is sp (c .before .before .before .before .before .expression-at .ensures ∙ ap Line.Expression (c .before .before .before .line4 .given .1)) .2) refl (c .then-refuse3 .ensures (number e (c .before .before .before .before .before .before .before .before .args .context .target) (fromTop d)) j j (c .before .check-type-numeric3 .ensures e j d sp q))
 
+check-type-boolean-loc-at-requires : (t : ℕ) → check-type-boolean-lts.Need-loc-at-requires (check-type-boolean-calls t) (check-type-boolean-at t) check-type-boolean.Post
+check-type-boolean-loc-at-requires t c κs = expression-holds (c .before .before .before .before .pre .1 .node) .room
+
 check-type-boolean-returns-10 : (t : ℕ) → check-type-boolean-lts.Need-returns-10 (check-type-boolean-calls t) (check-type-boolean-at t) check-type-boolean.Post
-unfolding truth walked
-check-type-boolean-returns-10 t c e j d sp q = rw (expression-is sp (c .before .before .before .before .expression-at .ensures ∙ ap Line.Expression (c .before .before .line5 .given .1)) .0) (c .refuse .ensures)
-
-check-type-boolean-returns-11 : (t : ℕ) → check-type-boolean-lts.Need-returns-11 (check-type-boolean-calls t) (check-type-boolean-at t) check-type-boolean.Post
-unfolding truth walked
-check-type-boolean-returns-11 t c e j d sp q = rw (expression-is sp (c .before .before .before .before .expression-at .ensures ∙ ap Line.Expression (c .before .before .line6 .given .1)) .0) (c .refuse2 .ensures)
-
-check-type-boolean-returns-12 : (t : ℕ) → check-type-boolean-lts.Need-returns-12 (check-type-boolean-calls t) (check-type-boolean-at t) check-type-boolean.Post
-unfolding truth walked
-check-type-boolean-returns-12 t c e j d sp q = rw (expression-is sp (c .before .before .before .before .expression-at .ensures ∙ ap Line.Expression (c .before .before .line7 .given .1)) .2) (c .refuse3 .ensures)
+check-type-boolean-returns-10 t c e j d sp q = refused-here e j (c .before .loc-at .ensures _ e j sp) (c .refuse .ensures) (others (Refuses truth) not-truths truth-refuses _ (c .before .before .match .keys9) sp (c .before .before .before .expression-at .ensures) _ _)
 
 abbrev check-type-crypto-operand-calls : ℕ → check-type-crypto-operand-lts.Claims
 check-type-crypto-operand-calls t =
@@ -437,31 +434,7 @@ check-type-crypto-operand-check-type-crypto-operand-requires t c κs =
     (omega (arith, a .0, row-low (a .1)), operand (SpellsExpression _ _) (a .1) (expression-is (a .1 .node .spells) (c .before .before .expression-at .ensures ∙ ap Line.Expression (c .enum-told .given .1)) .1))
 
 check-type-crypto-operand-check-type-requires : (t : ℕ) → check-type-crypto-operand-lts.Need-check-type-requires (check-type-crypto-operand-calls t) (check-type-crypto-operand-at t) check-type-crypto-operand.Post
-check-type-crypto-operand-check-type-requires t c κs = let a = c .before .before .before .before .before .pre in (omega (arith, a .0), a .1)
-
-check-type-crypto-operand-check-type-requires-2 : (t : ℕ) → check-type-crypto-operand-lts.Need-check-type-requires-2 (check-type-crypto-operand-calls t) (check-type-crypto-operand-at t) check-type-crypto-operand.Post
-check-type-crypto-operand-check-type-requires-2 t c κs = let a = c .before .before .before .before .before .pre in (omega (arith, a .0), a .1)
-
-check-type-crypto-operand-check-type-requires-3 : (t : ℕ) → check-type-crypto-operand-lts.Need-check-type-requires-3 (check-type-crypto-operand-calls t) (check-type-crypto-operand-at t) check-type-crypto-operand.Post
-check-type-crypto-operand-check-type-requires-3 t c κs = let a = c .before .before .before .before .before .pre in (omega (arith, a .0), a .1)
-
-check-type-crypto-operand-check-type-requires-4 : (t : ℕ) → check-type-crypto-operand-lts.Need-check-type-requires-4 (check-type-crypto-operand-calls t) (check-type-crypto-operand-at t) check-type-crypto-operand.Post
-check-type-crypto-operand-check-type-requires-4 t c κs = let a = c .before .before .before .before .before .pre in (omega (arith, a .0), a .1)
-
-check-type-crypto-operand-check-type-requires-5 : (t : ℕ) → check-type-crypto-operand-lts.Need-check-type-requires-5 (check-type-crypto-operand-calls t) (check-type-crypto-operand-at t) check-type-crypto-operand.Post
-check-type-crypto-operand-check-type-requires-5 t c κs = let a = c .before .before .before .before .before .pre in (omega (arith, a .0), a .1)
-
-check-type-crypto-operand-check-type-requires-6 : (t : ℕ) → check-type-crypto-operand-lts.Need-check-type-requires-6 (check-type-crypto-operand-calls t) (check-type-crypto-operand-at t) check-type-crypto-operand.Post
-check-type-crypto-operand-check-type-requires-6 t c κs = let a = c .before .before .before .before .before .pre in (omega (arith, a .0), a .1)
-
-check-type-crypto-operand-check-type-requires-7 : (t : ℕ) → check-type-crypto-operand-lts.Need-check-type-requires-7 (check-type-crypto-operand-calls t) (check-type-crypto-operand-at t) check-type-crypto-operand.Post
-check-type-crypto-operand-check-type-requires-7 t c κs = let a = c .before .before .before .before .before .pre in (omega (arith, a .0), a .1)
-
-check-type-crypto-operand-check-type-requires-8 : (t : ℕ) → check-type-crypto-operand-lts.Need-check-type-requires-8 (check-type-crypto-operand-calls t) (check-type-crypto-operand-at t) check-type-crypto-operand.Post
-check-type-crypto-operand-check-type-requires-8 t c κs = let a = c .before .before .before .before .before .pre in (omega (arith, a .0), a .1)
-
-check-type-crypto-operand-check-type-requires-9 : (t : ℕ) → check-type-crypto-operand-lts.Need-check-type-requires-9 (check-type-crypto-operand-calls t) (check-type-crypto-operand-at t) check-type-crypto-operand.Post
-check-type-crypto-operand-check-type-requires-9 t c κs = let a = c .before .before .before .before .before .pre in (omega (arith, a .0), a .1)
+check-type-crypto-operand-check-type-requires t c κs = let a = c .before .before .before .before .pre in (omega (arith, a .0), a .1)
 
 check-type-crypto-operand-returns : (t : ℕ) → check-type-crypto-operand-lts.Need-returns (check-type-crypto-operand-calls t) (check-type-crypto-operand-at t) check-type-crypto-operand.Post
 unfolding hashed wants
@@ -474,44 +447,11 @@ unfolding hashed
 check-type-crypto-operand-returns-2 t c e j d sp q = by-operand _ _ _ _ _ d _ q (λ e. hashed e (c .before .before .before .before .before .before .args .context .target) (fromTop d)) (SpellsExpression _ _) hashed (expression-is sp (c .before .before .before .expression-at .ensures ∙ ap Line.Expression (c .before .enum-told .given .1))) (c .check-type-crypto-operand .ensures) (λ a. refl)
 
 check-type-crypto-operand-returns-3 : (t : ℕ) → check-type-crypto-operand-lts.Need-returns-3 (check-type-crypto-operand-calls t) (check-type-crypto-operand-at t) check-type-crypto-operand.Post
-unfolding hashed general
-check-type-crypto-operand-returns-3 t c e j d sp q = turn (λ e. general e (c .before .before .before .before .before .before .args .context .target) (fromTop d)) (λ e. hashed e (c .before .before .before .before .before .before .args .context .target) (fromTop d)) j (expression-is sp (c .before .before .before .expression-at .ensures ∙ ap Line.Expression (c .before .enum-told2 .given .1)) .0) refl (c .check-type .ensures e j d sp q)
-
-check-type-crypto-operand-returns-4 : (t : ℕ) → check-type-crypto-operand-lts.Need-returns-4 (check-type-crypto-operand-calls t) (check-type-crypto-operand-at t) check-type-crypto-operand.Post
-unfolding hashed general
-check-type-crypto-operand-returns-4 t c e j d sp q = turn (λ e. general e (c .before .before .before .before .before .before .args .context .target) (fromTop d)) (λ e. hashed e (c .before .before .before .before .before .before .args .context .target) (fromTop d)) j (expression-is sp (c .before .before .before .expression-at .ensures ∙ ap Line.Expression (c .before .enum-told3 .given .1)) .0) refl (c .check-type2 .ensures e j d sp q)
-
-check-type-crypto-operand-returns-5 : (t : ℕ) → check-type-crypto-operand-lts.Need-returns-5 (check-type-crypto-operand-calls t) (check-type-crypto-operand-at t) check-type-crypto-operand.Post
-unfolding hashed general
-check-type-crypto-operand-returns-5 t c e j d sp q = turn (λ e. general e (c .before .before .before .before .before .before .args .context .target) (fromTop d)) (λ e. hashed e (c .before .before .before .before .before .before .args .context .target) (fromTop d)) j (expression-is sp (c .before .before .before .expression-at .ensures ∙ ap Line.Expression (c .before .enum-told4 .given .1)) .0) refl (c .check-type3 .ensures e j d sp q)
-
-check-type-crypto-operand-returns-6 : (t : ℕ) → check-type-crypto-operand-lts.Need-returns-6 (check-type-crypto-operand-calls t) (check-type-crypto-operand-at t) check-type-crypto-operand.Post
-unfolding hashed general
-check-type-crypto-operand-returns-6 t c e j d sp q = turn (λ e. general e (c .before .before .before .before .before .before .args .context .target) (fromTop d)) (λ e. hashed e (c .before .before .before .before .before .before .args .context .target) (fromTop d)) j (expression-is sp (c .before .before .before .expression-at .ensures ∙ ap Line.Expression (c .before .enum-told5 .given .1)) .5) refl (c .check-type4 .ensures e j d sp q)
-
-check-type-crypto-operand-returns-7 : (t : ℕ) → check-type-crypto-operand-lts.Need-returns-7 (check-type-crypto-operand-calls t) (check-type-crypto-operand-at t) check-type-crypto-operand.Post
-unfolding hashed general
-check-type-crypto-operand-returns-7 t c e j d sp q = turn (λ e. general e (c .before .before .before .before .before .before .args .context .target) (fromTop d)) (λ e. hashed e (c .before .before .before .before .before .before .args .context .target) (fromTop d)) j (expression-is sp (c .before .before .before .expression-at .ensures ∙ ap Line.Expression (c .before .enum-told6 .given .1)) .5) refl (c .check-type5 .ensures e j d sp q)
-
-check-type-crypto-operand-returns-8 : (t : ℕ) → check-type-crypto-operand-lts.Need-returns-8 (check-type-crypto-operand-calls t) (check-type-crypto-operand-at t) check-type-crypto-operand.Post
-unfolding hashed general
-check-type-crypto-operand-returns-8 t c e j d sp q = turn (λ e. general e (c .before .before .before .before .before .before .args .context .target) (fromTop d)) (λ e. hashed e (c .before .before .before .before .before .before .args .context .target) (fromTop d)) j (expression-is sp (c .before .before .before .expression-at .ensures ∙ ap Line.Expression (c .before .enum-told7 .given .1)) .5) refl (c .check-type6 .ensures e j d sp q)
-
-check-type-crypto-operand-returns-9 : (t : ℕ) → check-type-crypto-operand-lts.Need-returns-9 (check-type-crypto-operand-calls t) (check-type-crypto-operand-at t) check-type-crypto-operand.Post
-unfolding hashed general
-check-type-crypto-operand-returns-9 t c e j d sp q = turn (λ e. general e (c .before .before .before .before .before .before .args .context .target) (fromTop d)) (λ e. hashed e (c .before .before .before .before .before .before .args .context .target) (fromTop d)) j (expression-is sp (c .before .before .before .expression-at .ensures ∙ ap Line.Expression (c .before .enum-told8 .given .1)) .2) refl (c .check-type7 .ensures e j d sp q)
-
-check-type-crypto-operand-returns-10 : (t : ℕ) → check-type-crypto-operand-lts.Need-returns-10 (check-type-crypto-operand-calls t) (check-type-crypto-operand-at t) check-type-crypto-operand.Post
-unfolding hashed general
-check-type-crypto-operand-returns-10 t c e j d sp q = turn (λ e. general e (c .before .before .before .before .before .before .args .context .target) (fromTop d)) (λ e. hashed e (c .before .before .before .before .before .before .args .context .target) (fromTop d)) j (expression-is sp (c .before .before .before .expression-at .ensures ∙ ap Line.Expression (c .before .enum-told9 .given .1)) .2) refl (c .check-type8 .ensures e j d sp q)
-
-check-type-crypto-operand-returns-11 : (t : ℕ) → check-type-crypto-operand-lts.Need-returns-11 (check-type-crypto-operand-calls t) (check-type-crypto-operand-at t) check-type-crypto-operand.Post
-unfolding hashed general
-check-type-crypto-operand-returns-11 t c e j d sp q = turn (λ e. general e (c .before .before .before .before .before .before .args .context .target) (fromTop d)) (λ e. hashed e (c .before .before .before .before .before .before .args .context .target) (fromTop d)) j (expression-is sp (c .before .before .before .expression-at .ensures ∙ ap Line.Expression (c .before .enum-told10 .given .1)) .2) refl (c .check-type9 .ensures e j d sp q)
+check-type-crypto-operand-returns-3 t c e j d sp q = c .check-type .ensures e j d sp q ∙ ap (λ o. walked o j) (others ByGeneral no-hashes hashed-general _ (c .before .match .keys3) sp (c .before .before .expression-at .ensures) _ _)
 
 abbrev check-type-numeric-calls : ℕ → check-type-numeric-lts.Claims
 check-type-numeric-calls t =
-    (expression-at-reads.Asked, expression-at-reads.Learnt, check-variable-type-reads.Asked, check-variable-type-reads.Learnt, check-both-below t, check-both.Post, is-not-reads.Asked, is-not-reads.Learnt, refuse-reads.Asked, refuse-reads.Learnt, check-type-numeric-below t, check-type-numeric.Post, check-type-below t, check-type.Post)
+    (expression-at-reads.Asked, expression-at-reads.Learnt, check-variable-type-reads.Asked, check-variable-type-reads.Learnt, check-both-below t, check-both.Post, is-not-reads.Asked, is-not-reads.Learnt, refuse-reads.Asked, refuse-reads.Learnt, check-type-numeric-below t, check-type-numeric.Post, check-type-below t, check-type.Post, loc-at-reads.Asked, loc-at-reads.Learnt)
 
 check-type-numeric-expression-at-requires : (t : ℕ) → check-type-numeric-lts.Need-expression-at-requires (check-type-numeric-calls t) (check-type-numeric-at t) check-type-numeric.Post
 check-type-numeric-expression-at-requires t c κs = expression-holds (c .before .before .pre .1 .node)
@@ -568,33 +508,15 @@ check-type-numeric-returns-6 : (t : ℕ) → check-type-numeric-lts.Need-returns
 unfolding number general
 check-type-numeric-returns-6 t c e j d sp q = turn (λ e. general e (c .before .before .before .before .before .before .args .context .target) (fromTop d)) (λ e. number e (c .before .before .before .before .before .before .args .context .target) (fromTop d)) j (expression-is sp (c .before .before .before .expression-at .ensures ∙ ap Line.Expression (c .before .enum-told3 .given .1)) .2) refl (c .check-type .ensures e j d sp q)
 
+check-type-numeric-loc-at-requires : (t : ℕ) → check-type-numeric-lts.Need-loc-at-requires (check-type-numeric-calls t) (check-type-numeric-at t) check-type-numeric.Post
+check-type-numeric-loc-at-requires t c κs = expression-holds (c .before .before .before .before .pre .1 .node) .room
+
 check-type-numeric-returns-7 : (t : ℕ) → check-type-numeric-lts.Need-returns-7 (check-type-numeric-calls t) (check-type-numeric-at t) check-type-numeric.Post
-unfolding number walked
-check-type-numeric-returns-7 t c e j d sp q = rw (expression-is sp (c .before .before .before .before .expression-at .ensures ∙ ap Line.Expression (c .before .before .line3 .given .1)) .0) (c .refuse2 .ensures)
-
-check-type-numeric-returns-8 : (t : ℕ) → check-type-numeric-lts.Need-returns-8 (check-type-numeric-calls t) (check-type-numeric-at t) check-type-numeric.Post
-unfolding number walked
-check-type-numeric-returns-8 t c e j d sp q = rw (expression-is sp (c .before .before .before .before .expression-at .ensures ∙ ap Line.Expression (c .before .before .line4 .given .1)) .0) (c .refuse3 .ensures)
-
-check-type-numeric-returns-9 : (t : ℕ) → check-type-numeric-lts.Need-returns-9 (check-type-numeric-calls t) (check-type-numeric-at t) check-type-numeric.Post
-unfolding number walked
-check-type-numeric-returns-9 t c e j d sp q = rw (expression-is sp (c .before .before .before .before .expression-at .ensures ∙ ap Line.Expression (c .before .before .line5 .given .1)) .5) (c .refuse4 .ensures)
-
-check-type-numeric-returns-10 : (t : ℕ) → check-type-numeric-lts.Need-returns-10 (check-type-numeric-calls t) (check-type-numeric-at t) check-type-numeric.Post
-unfolding number walked
-check-type-numeric-returns-10 t c e j d sp q = rw (expression-is sp (c .before .before .before .before .expression-at .ensures ∙ ap Line.Expression (c .before .before .line6 .given .1)) .5) (c .refuse5 .ensures)
-
-check-type-numeric-returns-11 : (t : ℕ) → check-type-numeric-lts.Need-returns-11 (check-type-numeric-calls t) (check-type-numeric-at t) check-type-numeric.Post
-unfolding number walked
-check-type-numeric-returns-11 t c e j d sp q = rw (expression-is sp (c .before .before .before .before .expression-at .ensures ∙ ap Line.Expression (c .before .before .line7 .given .1)) .2) (c .refuse6 .ensures)
-
-check-type-numeric-returns-12 : (t : ℕ) → check-type-numeric-lts.Need-returns-12 (check-type-numeric-calls t) (check-type-numeric-at t) check-type-numeric.Post
-unfolding number walked
-check-type-numeric-returns-12 t c e j d sp q = rw (expression-is sp (c .before .before .before .before .expression-at .ensures ∙ ap Line.Expression (c .before .before .line8 .given .1)) .2) (c .refuse7 .ensures)
+check-type-numeric-returns-7 t c e j d sp q = refused-here e j (c .before .loc-at .ensures _ e j sp) (c .refuse2 .ensures) (others (Refuses number) not-numbers number-refuses _ (c .before .before .match .keys6) sp (c .before .before .before .expression-at .ensures) _ _)
 
 abbrev check-type-string-calls : ℕ → check-type-string-lts.Claims
 check-type-string-calls t =
-    (expression-at-reads.Asked, expression-at-reads.Learnt, check-variable-type-reads.Asked, check-variable-type-reads.Learnt, check-type-crypto-operand-below t, check-type-crypto-operand.Post, refuse-reads.Asked, refuse-reads.Learnt)
+    (expression-at-reads.Asked, expression-at-reads.Learnt, check-variable-type-reads.Asked, check-variable-type-reads.Learnt, check-type-crypto-operand-below t, check-type-crypto-operand.Post, loc-at-reads.Asked, loc-at-reads.Learnt, refuse-reads.Asked, refuse-reads.Learnt)
 
 check-type-string-expression-at-requires : (t : ℕ) → check-type-string-lts.Need-expression-at-requires (check-type-string-calls t) (check-type-string-at t) check-type-string.Post
 check-type-string-expression-at-requires t c κs = expression-holds (c .before .before .pre .1 .node)
@@ -630,37 +552,11 @@ check-type-string-returns-3 : (t : ℕ) → check-type-string-lts.Need-returns-3
 unfolding string
 check-type-string-returns-3 t c e j d sp q = by-operand _ _ _ _ _ d _ q (λ e. string e (c .before .before .before .before .before .before .args .context .target) (fromTop d)) (SpellsExpression _ _) hashed (expression-is sp (c .before .before .before .expression-at .ensures ∙ ap Line.Expression (c .before .enum-told2 .given .1))) (c .check-type-crypto-operand .ensures) (λ a. refl)
 
+check-type-string-loc-at-requires : (t : ℕ) → check-type-string-lts.Need-loc-at-requires (check-type-string-calls t) (check-type-string-at t) check-type-string.Post
+check-type-string-loc-at-requires t c κs = expression-holds (c .before .before .before .before .pre .1 .node) .room
+
 check-type-string-returns-4 : (t : ℕ) → check-type-string-lts.Need-returns-4 (check-type-string-calls t) (check-type-string-at t) check-type-string.Post
-unfolding string walked
-check-type-string-returns-4 t c e j d sp q = rw (expression-is sp (c .before .before .before .before .expression-at .ensures ∙ ap Line.Expression (c .before .before .line2 .given .1)) .0) (c .refuse .ensures)
-
-check-type-string-returns-5 : (t : ℕ) → check-type-string-lts.Need-returns-5 (check-type-string-calls t) (check-type-string-at t) check-type-string.Post
-unfolding string walked
-check-type-string-returns-5 t c e j d sp q = rw (expression-is sp (c .before .before .before .before .expression-at .ensures ∙ ap Line.Expression (c .before .before .line3 .given .1)) .0) (c .refuse2 .ensures)
-
-check-type-string-returns-6 : (t : ℕ) → check-type-string-lts.Need-returns-6 (check-type-string-calls t) (check-type-string-at t) check-type-string.Post
-unfolding string walked
-check-type-string-returns-6 t c e j d sp q = rw (expression-is sp (c .before .before .before .before .expression-at .ensures ∙ ap Line.Expression (c .before .before .line4 .given .1)) .5) (c .refuse3 .ensures)
-
-check-type-string-returns-7 : (t : ℕ) → check-type-string-lts.Need-returns-7 (check-type-string-calls t) (check-type-string-at t) check-type-string.Post
-unfolding string walked
-check-type-string-returns-7 t c e j d sp q = rw (expression-is sp (c .before .before .before .before .expression-at .ensures ∙ ap Line.Expression (c .before .before .line5 .given .1)) .5) (c .refuse4 .ensures)
-
-check-type-string-returns-8 : (t : ℕ) → check-type-string-lts.Need-returns-8 (check-type-string-calls t) (check-type-string-at t) check-type-string.Post
-unfolding string walked
-check-type-string-returns-8 t c e j d sp q = rw (expression-is sp (c .before .before .before .before .expression-at .ensures ∙ ap Line.Expression (c .before .before .line6 .given .1)) .5) (c .refuse5 .ensures)
-
-check-type-string-returns-9 : (t : ℕ) → check-type-string-lts.Need-returns-9 (check-type-string-calls t) (check-type-string-at t) check-type-string.Post
-unfolding string walked
-check-type-string-returns-9 t c e j d sp q = rw (expression-is sp (c .before .before .before .before .expression-at .ensures ∙ ap Line.Expression (c .before .before .line7 .given .1)) .2) (c .refuse6 .ensures)
-
-check-type-string-returns-10 : (t : ℕ) → check-type-string-lts.Need-returns-10 (check-type-string-calls t) (check-type-string-at t) check-type-string.Post
-unfolding string walked
-check-type-string-returns-10 t c e j d sp q = rw (expression-is sp (c .before .before .before .before .expression-at .ensures ∙ ap Line.Expression (c .before .before .line8 .given .1)) .2) (c .refuse7 .ensures)
-
-check-type-string-returns-11 : (t : ℕ) → check-type-string-lts.Need-returns-11 (check-type-string-calls t) (check-type-string-at t) check-type-string.Post
-unfolding string walked
-check-type-string-returns-11 t c e j d sp q = rw (expression-is sp (c .before .before .before .before .expression-at .ensures ∙ ap Line.Expression (c .before .before .line9 .given .1)) .2) (c .refuse8 .ensures)
+check-type-string-returns-4 t c e j d sp q = refused-here e j (c .before .loc-at .ensures _ e j sp) (c .refuse .ensures) (others (Refuses string) not-strings string-refuses _ (c .before .before .match .keys4) sp (c .before .before .before .expression-at .ensures) _ _)
 
 pub +check-both+check-compare+check-operand+check-type+check-type-boolean+check-type-crypto-operand+check-type-numeric+check-type-string-spec : {M : Type 1} → statement M
 +check-both+check-compare+check-operand+check-type+check-type-boolean+check-type-crypto-operand+check-type-numeric+check-type-string-spec =
@@ -777,11 +673,7 @@ pub +check-both+check-compare+check-operand+check-type+check-type-boolean+check-
     (λ c. search needs)
     (check-type-boolean-check-type-numeric-requires-3 t)
     (λ c κs. search needs)
-    (λ c. search needs)
-    (λ c κs. search needs)
-    (λ c. search needs)
-    (λ c κs. search needs)
-    (λ c. search needs)
+    (check-type-boolean-loc-at-requires t)
     (λ c κs. search needs)
     (check-type-boolean-returns-2 t)
     (check-type-boolean-returns-3 t)
@@ -791,9 +683,7 @@ pub +check-both+check-compare+check-operand+check-type+check-type-boolean+check-
     (check-type-boolean-returns-7 t)
     (check-type-boolean-returns-8 t)
     (check-type-boolean-returns-9 t)
-    (check-type-boolean-returns-10 t)
-    (check-type-boolean-returns-11 t)
-    (check-type-boolean-returns-12 t))
+    (check-type-boolean-returns-10 t))
     (λ t. check-type-crypto-operand-lts.spec
     (check-type-crypto-operand-calls t)
     (check-type-crypto-operand-at t)
@@ -804,35 +694,10 @@ pub +check-both+check-compare+check-operand+check-type+check-type-boolean+check-
     (check-type-crypto-operand-check-variable-type-requires t)
     (λ c. search needs)
     (check-type-crypto-operand-check-type-crypto-operand-requires t)
-    (λ c. search needs)
     (check-type-crypto-operand-check-type-requires t)
-    (λ c. search needs)
-    (check-type-crypto-operand-check-type-requires-2 t)
-    (λ c. search needs)
-    (check-type-crypto-operand-check-type-requires-3 t)
-    (λ c. search needs)
-    (check-type-crypto-operand-check-type-requires-4 t)
-    (λ c. search needs)
-    (check-type-crypto-operand-check-type-requires-5 t)
-    (λ c. search needs)
-    (check-type-crypto-operand-check-type-requires-6 t)
-    (λ c. search needs)
-    (check-type-crypto-operand-check-type-requires-7 t)
-    (λ c. search needs)
-    (check-type-crypto-operand-check-type-requires-8 t)
-    (λ c. search needs)
-    (check-type-crypto-operand-check-type-requires-9 t)
     (check-type-crypto-operand-returns t)
     (check-type-crypto-operand-returns-2 t)
-    (check-type-crypto-operand-returns-3 t)
-    (check-type-crypto-operand-returns-4 t)
-    (check-type-crypto-operand-returns-5 t)
-    (check-type-crypto-operand-returns-6 t)
-    (check-type-crypto-operand-returns-7 t)
-    (check-type-crypto-operand-returns-8 t)
-    (check-type-crypto-operand-returns-9 t)
-    (check-type-crypto-operand-returns-10 t)
-    (check-type-crypto-operand-returns-11 t))
+    (check-type-crypto-operand-returns-3 t))
     (λ t. check-type-numeric-lts.spec
     (check-type-numeric-calls t)
     (check-type-numeric-at t)
@@ -851,29 +716,14 @@ pub +check-both+check-compare+check-operand+check-type+check-type-boolean+check-
     (check-type-numeric-check-type-numeric-requires t)
     (λ c. search needs)
     (check-type-numeric-check-type-requires t)
-    (λ c. search needs)
-    (λ c κs. search needs)
-    (λ c. search needs)
-    (λ c κs. search needs)
-    (λ c. search needs)
-    (λ c κs. search needs)
-    (λ c. search needs)
-    (λ c κs. search needs)
-    (λ c. search needs)
-    (λ c κs. search needs)
-    (λ c. search needs)
+    (check-type-numeric-loc-at-requires t)
     (λ c κs. search needs)
     (check-type-numeric-returns-2 t)
     (check-type-numeric-returns-3 t)
     (check-type-numeric-returns-4 t)
     (check-type-numeric-returns-5 t)
     (check-type-numeric-returns-6 t)
-    (check-type-numeric-returns-7 t)
-    (check-type-numeric-returns-8 t)
-    (check-type-numeric-returns-9 t)
-    (check-type-numeric-returns-10 t)
-    (check-type-numeric-returns-11 t)
-    (check-type-numeric-returns-12 t))
+    (check-type-numeric-returns-7 t))
     (λ t. check-type-string-lts.spec
     (check-type-string-calls t)
     (check-type-string-at t)
@@ -885,30 +735,9 @@ pub +check-both+check-compare+check-operand+check-type+check-type-boolean+check-
     (λ c. search needs)
     (λ c. search needs)
     (check-type-string-check-type-crypto-operand-requires t)
-    (λ c. search needs)
-    (λ c κs. search needs)
-    (λ c. search needs)
-    (λ c κs. search needs)
-    (λ c. search needs)
-    (λ c κs. search needs)
-    (λ c. search needs)
-    (λ c κs. search needs)
-    (λ c. search needs)
-    (λ c κs. search needs)
-    (λ c. search needs)
-    (λ c κs. search needs)
-    (λ c. search needs)
-    (λ c κs. search needs)
-    (λ c. search needs)
+    (check-type-string-loc-at-requires t)
     (λ c κs. search needs)
     (check-type-string-returns t)
     (check-type-string-returns-2 t)
     (check-type-string-returns-3 t)
-    (check-type-string-returns-4 t)
-    (check-type-string-returns-5 t)
-    (check-type-string-returns-6 t)
-    (check-type-string-returns-7 t)
-    (check-type-string-returns-8 t)
-    (check-type-string-returns-9 t)
-    (check-type-string-returns-10 t)
-    (check-type-string-returns-11 t))
+    (check-type-string-returns-4 t))

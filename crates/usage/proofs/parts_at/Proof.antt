@@ -4,7 +4,7 @@ use borrow.Author.Needs.{needs}
 use Rattle.rows.specs.Rows.{lineIn}
 use Rattle.reader.specs.Spells.{SpellsFactor}
 use Rattle.nodes.proofs.Laws.{expression-holds, below}
-use Rattle.usage.proofs.Trees.{parts-are, signed-parts}
+use Rattle.usage.proofs.Trees.{parts-are, parts-counted, signed-parts}
 use Rattle.usage.proofs.parts_at.Statement.{statement}
 use Rattle.usage.proofs.parts_at.Tie as tie
 
@@ -18,7 +18,7 @@ signatures-at-requires : tie.Need-signatures-at-requires
 signatures-at-requires c κs =
     let b = c .before .before .before .before in
     let st = b .pre .1 in
-    let p = parts-are (lineIn (b .args .table .now)) (b .pre .0) (st .spells) (c .before .before .expression-at .ensures) (c .enum-told10 .given .1) in
+    let p = parts-are (lineIn (b .args .table .now)) (b .pre .0) (st .spells) (c .before .before .expression-at .ensures) (c .enum-told .given .1) in
     (b .pre .0, below (SpellsFactor (lineIn (b .args .table .now)) (b .pre .0)) st (p .1) (omega arith))
 
 returns : tie.Need-returns
@@ -28,54 +28,14 @@ returns c s e j sp =
 
 returns-2 : tie.Need-returns-2
 returns-2 c s e j sp =
-    let b = c .before .before .before .before in
-    parts-are (lineIn (b .args .table .now)) s sp (c .before .before .expression-at .ensures) (c .enum-told .given .1)
+    let b = c .before .before .before .before .before in
+    let p = parts-are (lineIn (b .args .table .now)) s sp (c .before .before .before .expression-at .ensures) (c .before .enum-told .given .1) in
+    signed-parts (lineIn (b .args .table .now)) s (b .args .i) j e (p .0) (p .2) (c .signatures-at .result) (c .signatures-at .ensures s (p .0) j (p .1))
 
 returns-3 : tie.Need-returns-3
 returns-3 c s e j sp =
     let b = c .before .before .before .before in
-    parts-are (lineIn (b .args .table .now)) s sp (c .before .before .expression-at .ensures) (c .enum-told2 .given .1)
-
-returns-4 : tie.Need-returns-4
-returns-4 c s e j sp =
-    let b = c .before .before .before .before in
-    parts-are (lineIn (b .args .table .now)) s sp (c .before .before .expression-at .ensures) (c .enum-told3 .given .1)
-
-returns-5 : tie.Need-returns-5
-returns-5 c s e j sp =
-    let b = c .before .before .before .before in
-    parts-are (lineIn (b .args .table .now)) s sp (c .before .before .expression-at .ensures) (c .enum-told4 .given .1)
-
-returns-6 : tie.Need-returns-6
-returns-6 c s e j sp =
-    let b = c .before .before .before .before in
-    parts-are (lineIn (b .args .table .now)) s sp (c .before .before .expression-at .ensures) (c .enum-told5 .given .1)
-
-returns-7 : tie.Need-returns-7
-returns-7 c s e j sp =
-    let b = c .before .before .before .before in
-    parts-are (lineIn (b .args .table .now)) s sp (c .before .before .expression-at .ensures) (c .enum-told6 .given .1)
-
-returns-8 : tie.Need-returns-8
-returns-8 c s e j sp =
-    let b = c .before .before .before .before in
-    parts-are (lineIn (b .args .table .now)) s sp (c .before .before .expression-at .ensures) (c .enum-told7 .given .1)
-
-returns-9 : tie.Need-returns-9
-returns-9 c s e j sp =
-    let b = c .before .before .before .before in
-    parts-are (lineIn (b .args .table .now)) s sp (c .before .before .expression-at .ensures) (c .enum-told8 .given .1)
-
-returns-10 : tie.Need-returns-10
-returns-10 c s e j sp =
-    let b = c .before .before .before .before in
-    parts-are (lineIn (b .args .table .now)) s sp (c .before .before .expression-at .ensures) (c .enum-told9 .given .1)
-
-returns-11 : tie.Need-returns-11
-returns-11 c s e j sp =
-    let b = c .before .before .before .before .before in
-    let p = parts-are (lineIn (b .args .table .now)) s sp (c .before .before .before .expression-at .ensures) (c .before .enum-told10 .given .1) in
-    signed-parts (lineIn (b .args .table .now)) s (b .args .i) j e (p .0) (p .2) (c .signatures-at .result) (c .signatures-at .ensures s (p .0) j (p .1))
+    parts-counted (lineIn (b .args .table .now)) s (c .before .before .expression-at .result) (c .before .match .keys3) sp (c .before .before .expression-at .ensures) (c .operand-count .ensures)
 
 pub parts-at-spec : {M : Type 1} → statement M
 parts-at-spec =
@@ -85,24 +45,8 @@ parts-at-spec =
     add-first
     (λ c. search needs)
     (λ c. search needs)
-    (λ c. search needs)
-    (λ c. search needs)
-    (λ c. search needs)
-    (λ c. search needs)
-    (λ c. search needs)
-    (λ c. search needs)
-    (λ c. search needs)
-    (λ c. search needs)
-    (λ c. search needs)
     signatures-at-requires
+    (λ c κs. search needs)
     returns
     returns-2
-    returns-3
-    returns-4
-    returns-5
-    returns-6
-    returns-7
-    returns-8
-    returns-9
-    returns-10
-    returns-11)
+    returns-3)
