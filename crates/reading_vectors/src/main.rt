@@ -4,12 +4,13 @@ use ast::CompileError;
 use reading::ListingRead;
 use records::FILLED;
 use records::Head;
-use records::count_wrong;
 use records::digit;
+use records::not_cleared;
 use records::print_number;
 use records::read_bytes;
 use records::read_end;
 use records::read_head;
+use records::touched;
 use records::touched_past;
 use records::wide;
 
@@ -97,7 +98,7 @@ fn wrong_words(work: &[u32; 16400], number: u64) -> u64 {
     if number == 0 {
         return past;
     }
-    std::num::wrapping_add_u64(past, count_wrong(work, 0, 16384, 0))
+    std::num::wrapping_add_u64(past, not_cleared(work))
 }
 
 // A listing is read with work enough.
@@ -125,7 +126,7 @@ fn examine_short(index: u64, listing: &[u8], t: Tally) -> Tally {
         t.differ,
         differs(index, a, Due { number: 5, line: 0 }),
     );
-    let wrong = std::num::wrapping_add_u64(t.wrong, count_wrong(&work, 0, 16400, FILLED));
+    let wrong = std::num::wrapping_add_u64(t.wrong, touched(&work));
     Tally {
         listings: t.listings,
         differ,

@@ -1,6 +1,9 @@
 // What the programs over stored listings have in common. A record of their files is a head that begins with the count of its bytes
 // in five digits, the bytes, and byte 10.
-ghost use Prim.Native.Nat.{_≤_, _<_};
+ghost use mathlib.Core.Path.{_≡_};
+ghost use Prim.Native.Nat.{_%_};
+ghost use lib.ListN.{take, drop};
+ghost use Rattle.records.specs.Wrong.{wrongWord, wrongIn};
 ghost use Rattle.io.specs.Counts.{Counts};
 use libc::STDOUT_FILENO;
 
@@ -14,13 +17,15 @@ pub enum Head {
     Cut,
 }
 
-pub fn wide(x: u32) -> u64 {
+pub fn wide(x: u32) -> u64
+    ensures { λ r. ⌜ r ≡ x ⌝ }
+{
     x as u64
 }
 
 // What a decimal digit stands for: the low half of its byte.
 pub fn digit(b: u8) -> usize
-    ensures { λ r. ⌜ r < 16 ⌝ }
+    ensures { λ r. ⌜ r ≡ b % 16 ⌝ }
 {
     (b % 16) as usize
 }
@@ -75,22 +80,44 @@ pub fn print_number(n: u64, after: &[u8]) {
     io::write_all(STDOUT_FILENO, after);
 }
 
-// How many of the words from `from` on and before `to` are not `due`.
-pub fn count_wrong(work: &[u32; 16400], from: usize, to: usize, due: u32) -> u64
-    requires { ⌜ to ≤ 16400 ⌝ }
+// 1 for a word that is not `due`.
+fn wrong_word(word: u32, due: u32) -> u64
+    ensures { λ r. ⌜ r ≡ wrongWord due word ⌝ }
+{
+    if word == due { 0 } else { 1 }
+}
+
+// How many of the words from `from` on are not `due`.
+fn count_wrong(words: &[u32], from: usize, due: u32) -> u64
+    ensures { λ r. ⌜ r ≡ wrongIn due (drop from (now (words .entry))) ⌝ }
 {
     let mut wrong: u64 = 0;
     let mut i = from;
-    while i < to {
-        if work[i] != due {
-            wrong = std::num::wrapping_add_u64(wrong, 1);
-        }
+    while i < words.len() {
+        wrong += wrong_word(words[i], due);
         i += 1;
     }
     wrong
 }
 
+// How many of the words were touched.
+pub fn touched(work: &[u32; 16400]) -> u64
+    ensures { λ r. ⌜ r ≡ wrongIn 7 (now (work .entry)) ⌝ }
+{
+    count_wrong(work, 0, FILLED)
+}
+
 // How many of the words past the 16384 that are asked were touched.
-pub fn touched_past(work: &[u32; 16400]) -> u64 {
-    count_wrong(work, 16384, 16400, FILLED)
+pub fn touched_past(work: &[u32; 16400]) -> u64
+    ensures { λ r. ⌜ r ≡ wrongIn 7 (drop 16384 (now (work .entry))) ⌝ }
+{
+    count_wrong(work, 16384, FILLED)
+}
+
+// How many of the 16384 words that are asked are not zero.
+pub fn not_cleared(work: &[u32; 16400]) -> u64
+    ensures { λ r. ⌜ r ≡ wrongIn 0 (take 16384 (now (work .entry))) ⌝ }
+{
+    let words = &work[..];
+    count_wrong(&words[..16384], 0, 0)
 }

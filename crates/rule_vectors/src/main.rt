@@ -4,7 +4,7 @@ use ast::CompileError;
 use examiner::Verdict;
 use records::FILLED;
 use records::Head;
-use records::count_wrong;
+use records::not_cleared;
 use records::print_number;
 use records::read_bytes;
 use records::read_end;
@@ -70,8 +70,7 @@ fn print_answer(index: u64, a: Answer) {
 
 // After a check 16384 words are zero; those past them are never touched.
 fn wrong_words(work: &[u32; 16400]) -> u64 {
-    let within = count_wrong(work, 0, 16384, 0);
-    std::num::wrapping_add_u64(within, touched_past(work))
+    std::num::wrapping_add_u64(not_cleared(work), touched_past(work))
 }
 
 fn accepted(a: Answer) -> u64 {
