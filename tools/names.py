@@ -1,5 +1,5 @@
 #!/usr/bin/env python3
-"""Rewrites the unfolding lines of the tables that are computed: proofs/Computed.antt of reader and of examiner.
+"""Rewrites the unfolding lines of the tables that are computed: proofs/Computed.antt of reader, examiner and rehearsal.
 
     python3 tools/names.py
 
@@ -15,6 +15,7 @@ CRATES = os.path.join(os.path.dirname(os.path.abspath(__file__)), "..", "crates"
 TABLES = [
     ("reader", [], ["ast", "text", "listing", "reader"]),
     ("examiner", ["reader"], ["rules", "declarations", "output", "reporting", "examiner"]),
+    ("rehearsal", ["examiner"], ["turns", "rehearsal"]),
 ]
 
 

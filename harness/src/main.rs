@@ -16,6 +16,8 @@ mod make;
 mod mutate;
 mod oracle;
 mod reading;
+#[cfg(feature = "examiner")]
+mod rehearse;
 mod rng;
 mod stored;
 mod tree;
@@ -34,6 +36,8 @@ const USAGE: &str = "usage: run vectors --sources SOURCES --seed NUMBER --out FO
        run answer --sources SOURCES < LISTING
        run reading --sources SOURCES --stored FILE
        run compare --sources SOURCES --seed NUMBER --count NUMBER [--library FILE] [--plant NUMBER]
+       run rehearse --sources SOURCES --seed NUMBER --count NUMBER [--library FILE]
+       run rehearse --sources SOURCES --vectors FILE [--library FILE]
        run bench --sources SOURCES [--library FILE]";
 
 /// The value after an option, if the option is there.
@@ -87,6 +91,17 @@ fn main() {
             let plant = maybe(&arguments, "--plant").map(|_| number(&arguments, "--plant") as u8);
             let count = number(&arguments, "--count") as usize;
             match compare::run(number(&arguments, "--seed"), count, plant) {
+                Ok(totals) => println!("{totals}"),
+                Err(text) => fail(&text),
+            }
+        }
+        #[cfg(feature = "examiner")]
+        Some("rehearse") => {
+            let done = match maybe(&arguments, "--vectors") {
+                Some(file) => rehearse::replay(contents(&file)),
+                None => rehearse::run(number(&arguments, "--seed"), number(&arguments, "--count") as usize),
+            };
+            match done {
                 Ok(totals) => println!("{totals}"),
                 Err(text) => fail(&text),
             }

@@ -3,7 +3,6 @@ use Prim.Native.Nat.{ℕ, _<_}
 use native.Mathlib.Omega.{arith}
 use mathlib.Core.List.{List}
 use mathlib.Core.Path.{_≡_, refl, sym, ap, _∙_, subst}
-use borrow.Author.Tests.{eq-eqb, ne-eqb}
 use lib.ListN.{getD}
 use Rattle.ast.specs.declared.CompileError.{CompileError}
 use Rattle.ast.specs.declared.Checked.{Checked}
@@ -20,11 +19,11 @@ use Rattle.paths.specs.declared.NamePlace.{NamePlace}
 use Rattle.paths.specs.declared.Path.{Path}
 use Rattle.declarations.specs.declared.Declared.{Declared}
 use Rattle.declarations.specs.Items.{ContractAt, DeclaredAs, Given}
-use Rattle.tables.specs.State.{pathAt, tablesOf, Ready, faultIn, branchIn, OnlyFault, Moved, started, accepted}
+use Rattle.tables.specs.State.{pathAt, tablesOf, Ready, branchIn, OnlyFault, Moved, started, accepted}
 use Rattle.statements.specs.Steps.{tablesWith, InUse}
 use Rattle.analyze.specs.Analysis.{analyzed, finished, answered, Analyzed}
-use Rattle.tables.proofs.State.{outcome-fault, fault-some, fault-in, fault-only}
-use Rattle.blocks.proofs.Blocks.{moved-on}
+use Rattle.tables.proofs.State.{fault-none, fault-some, fault-in}
+use Rattle.blocks.proofs.Blocks.{moved-fault, moved-on}
 use Rattle.statements.proofs.Walking.{in-use, tables-same}
 
 -- what comes after flow and the count
@@ -86,32 +85,20 @@ started-branch c {w} h = go (buildAll (c .declarations)) refl
         ap (λ w. w .branch) (sym g)
     go (err y) e = let f : _≡_ {A = Result Walk} (err y) (ok w) = rw e at h in let o : _≡_ {A = ℕ} 0 1 = cc in absurd (omega arith)
 
--- a refusal in numbers
-analyzed-fault : (ts : List Table) (out : List ℕ) → (getD out 0 0 ≡ 0 → ⊥) → analyzed ts out ≡ err (faultIn out)
-unfolding analyzed
-analyzed-fault ts out h = rw (ne-eqb (getD out 0 0) 0 h, analyzed)
-
-moved-fault : {s t : List ℕ} {d : Declared} {w : Result Walk} {j : ℕ} {rows : List (List NamePlace)} {taken out : List ℕ} → Moved s t d w j rows taken out → (getD out 0 0 ≡ 0 → ⊥) → w ≡ err (faultIn out)
-moved-fault {s} {t} {d} {rows = rows} {taken = taken} {out = out} m z = sym (m .result) ∙ outcome-fault (tablesOf s t d rows taken) out z
-
-analyzed-ok : (ts : List Table) (out : List ℕ) → getD out 0 0 ≡ 0 → analyzed ts out ≡ ok ts
-unfolding analyzed
-analyzed-ok ts out h = rw (eq-eqb (getD out 0 0) 0 h, analyzed)
-
 -- the analysis refuses, or accepts
 pub ends-fault : {s t : List ℕ} {d : Declared} {w : Result (List Table)} {x : CompileError} {rows : List (List NamePlace)} {taken out : List ℕ} → OnlyFault x rows taken out → w ≡ err x → Analyzed s t d w rows taken out
-unfolding answered
-ends-fault {s} {t} {d} {rows = rows} {taken = taken} {out = out} f e = record {
-  result = analyzed-fault (tablesOf s t d rows taken) out (fault-some f) ∙ ap err (fault-in f) ∙ sym e;
+unfolding analyzed answered
+ends-fault {x = x} f e = record {
+  result = rw (fault-in f, analyzed) (sym e);
   numbers = f .numbers ∙ ap answered (sym e);
   ready = λ z. absurd (fault-some f z);
-  refused = λ z. fault-only f;
+  refused = λ z. (x, f);
 }
 
 pub ends-ok : {s t : List ℕ} {d : Declared} {w : Result (List Table)} {rows : List (List NamePlace)} {taken out : List ℕ} → out ≡ accepted → w ≡ ok (tablesOf s t d rows taken) → Ready s t d rows taken → Analyzed s t d w rows taken out
-unfolding answered accepted
-ends-ok {s} {t} {d} {rows = rows} {taken = taken} {out = out} q e r = record {
-  result = analyzed-ok (tablesOf s t d rows taken) out (ap (λ o. getD o 0 0) q) ∙ sym e;
+unfolding analyzed answered accepted
+ends-ok {out = out} q e r = record {
+  result = rw (fault-none out (ap (λ o. getD o 0 0) q), analyzed) (sym e);
   numbers = q ∙ ap answered (sym e);
   ready = λ z. r;
   refused = λ z. absurd (z (ap (λ o. getD o 0 0) q));
@@ -123,7 +110,7 @@ ends-as a e = record { result = a .result ∙ e; numbers = a .numbers ∙ ap ans
 
 -- a step of the walk refused
 ends-moved : {s t : List ℕ} {d : Declared} {w : Result Walk} {v : Result (List Table)} {j : ℕ} {rows : List (List NamePlace)} {taken out : List ℕ} → Moved s t d w j rows taken out → (z : getD out 0 0 ≡ 0 → ⊥) → ((x : CompileError) → w ≡ err x → v ≡ err x) → Analyzed s t d v rows taken out
-ends-moved m z f = ends-fault (m .refused z) (f _ (moved-fault m z))
+ends-moved m z f = ends-fault (m .refused z .1) (f _ (moved-fault m z))
 
 module _ {s t : List ℕ} {d : Declared} {c : Contract} {n : ℕ} (D : DeclaredAs s t d c n) where
   pub stops-at-shape : {x : CompileError} {y : Checked} → y ≡ both (flow (c .block)) (counted (count (c .block)) (c .declarations)) → y ≡ Err x → {rows : List (List NamePlace)} {taken out : List ℕ} → OnlyFault x rows taken out → Analyzed s t d (analyze c) rows taken out

@@ -15,18 +15,17 @@ use Rattle.rules.specs.Result.{Result, ok}
 use Rattle.declarations.specs.declared.Declared.{Declared}
 use Rattle.tables.specs.State.{pathAt, tablesOf, Ready, accepted}
 use Rattle.analyze.specs.Analysis.{analyzed, answered, Analyzed}
-use Rattle.tables.proofs.State.{table-at}
+use Rattle.tables.proofs.State.{fault-none, table-at}
 use Rattle.tables.proofs.Determined.{by-position, whole}
 
-zero-out : {s t : List ℕ} {d : Declared} {ts : List Table} {rows : List (List NamePlace)} {taken out : List ℕ} → Analyzed s t d (ok ts) rows taken out → getD out 0 0 ≡ 0
+pub zero-out : {s t : List ℕ} {d : Declared} {ts : List Table} {rows : List (List NamePlace)} {taken out : List ℕ} → Analyzed s t d (ok ts) rows taken out → getD out 0 0 ≡ 0
 unfolding answered accepted
 zero-out a = ap (λ o. getD o 0 0) (a .numbers)
 
-tables-are : {s t : List ℕ} {d : Declared} {ts : List Table} {rows : List (List NamePlace)} {taken out : List ℕ} → Analyzed s t d (ok ts) rows taken out → tablesOf s t d rows taken ≡ ts
+pub tables-are : {s t : List ℕ} {d : Declared} {ts : List Table} {rows : List (List NamePlace)} {taken out : List ℕ} → Analyzed s t d (ok ts) rows taken out → tablesOf s t d rows taken ≡ ts
 unfolding analyzed
 tables-are {s} {t} {d} {ts} {rows} {taken} {out} a =
-    let z : getD out 0 0 ≡ 0 = zero-out a in
-    let e : _≡_ {A = Result (List Table)} (ok (tablesOf s t d rows taken)) (ok ts) = rw (z, analyzed) at (a .result) in
+    let e : _≡_ {A = Result (List Table)} (ok (tablesOf s t d rows taken)) (ok ts) = rw (fault-none out (zero-out a), analyzed) at (a .result) in
     cc
 
 module _ {s t : List ℕ} {d : Declared} {ts : List Table} {rows rows′ : List (List NamePlace)} {taken taken′ out out′ : List ℕ} (a : Analyzed s t d (ok ts) rows taken out) (b : Analyzed s t d (ok ts) rows′ taken′ out′) where

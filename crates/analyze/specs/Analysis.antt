@@ -1,10 +1,10 @@
 -- The whole analysis, in numbers and tables.
 use Prim.Native.Nat.{ℕ}
-use mathlib.Core.Bool.{true, false}
 use mathlib.Core.List.{List}
+use mathlib.Core.Option.{some, none}
 use mathlib.Core.Path.{_≡_}
-use lib.Dec.{eqb}
 use lib.ListN.{getD}
+use Rattle.ast.specs.declared.CompileError.{CompileError}
 use Rattle.rules.specs.Result.{Result, ok, err, _>>_}
 use Rattle.rules.specs.Table.{Table}
 use Rattle.rules.specs.Unused.{unusedAll}
@@ -14,7 +14,7 @@ use Rattle.tables.specs.State.{tablesOf, Ready, faultIn, refusal, OnlyFault, ac
 
 -- the tables of all paths, or the refusal, as the numbers say
 unfoldable pub analyzed : List Table → List ℕ → Result (List Table)
-analyzed ts out = elim (eqb (getD out 0 0) 0) [ true ↦ ok ts | false ↦ err (faultIn out) ]
+analyzed ts out = elim (faultIn out) [ none ↦ ok ts | some x ↦ err x ]
 
 -- after the statements: items left over
 abbrev pub finished : List Table → Result (List Table)
@@ -30,4 +30,4 @@ pub record Analyzed (s t : List ℕ) (d : Declared) (w : Result (List Table)) (r
   pub result : analyzed (tablesOf s t d rows taken) out ≡ w
   pub numbers : out ≡ answered w
   pub ready : getD out 0 0 ≡ 0 → Ready s t d rows taken
-  pub refused : (getD out 0 0 ≡ 0 → ⊥) → OnlyFault (faultIn out) rows taken out
+  pub refused : (getD out 0 0 ≡ 0 → ⊥) → (x : CompileError) × OnlyFault x rows taken out

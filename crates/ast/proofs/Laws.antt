@@ -1,11 +1,15 @@
--- A number past the last variant stands for the last, and a variant's number for the variant. Assumes nothing.
+-- A number past the last variant stands for the last, a variant's number for the variant, and a number that is no kind's for no kind. Assumes nothing.
 use mathlib.Core.Path.{_≡_, refl, sym}
 use mathlib.Core.List.{List, [], _∷_}
-use Prim.Native.Nat.{ℕ, zero, suc, pred, _≤_, _-_}
+use mathlib.Core.Option.{none}
+use Prim.Native.Nat.{ℕ, zero, suc, pred, _≤_}
 use native.Mathlib.Omega.{arith}
+use borrow.Author.Tests.{ne-eqb}
 use lib.ListN.{length, getD}
-use Rattle.ast.specs.Numbers.{targets, types, logicalOps, compareOps, mathOps, unaryOps, cryptoOps, locktimeOps, targetNumber, typeNumber, logicalNumber, compareNumber, mathNumber, unaryNumber, cryptoNumber, locktimeNumber, kinds, kindFrom}
-use Rattle.ast.specs.declared.ErrorKind.the-variants.{MalformedPubkey}
+use Rattle.ast.specs.Numbers.{targets, types, logicalOps, compareOps, mathOps, unaryOps, cryptoOps, locktimeOps, targetNumber, typeNumber, logicalNumber, compareNumber, mathNumber, unaryNumber, cryptoNumber, locktimeNumber, kinds, kindAmong, kindFrom, foundKind}
+use Rattle.ast.specs.Tree.{number}
+use Rattle.ast.specs.declared.ErrorKind.{ErrorKind}
+use Rattle.ast.specs.declared.KindFound.{KindFound}
 use Rattle.ast.specs.declared.Target.{Target}
 use Rattle.ast.specs.declared.Type.{«Type» as ItemType}
 use Rattle.ast.specs.declared.BinaryLogicalOp.{BinaryLogicalOp}
@@ -34,9 +38,21 @@ from-last (x ∷ y ∷ l) d (suc n) h e = from-last (y ∷ l) d n (omega arith) 
 pub past-last : {A : Type 0} (l : List A) (d : A) (n : ℕ) → Past n (pred (length l)) → getD l (pred (length l)) d ≡ d → d ≡ getD l n d
 past-last l d n h e = from-last l d n (past n (pred (length l)) h) e
 
-pub kind-past : (n : ℕ) → Past n 22 → MalformedPubkey ≡ kindFrom n
-unfolding kindFrom
-kind-past n h = let b : 22 ≤ n = past n 22 h in from-last kinds MalformedPubkey (n - 1) (omega arith) refl
+-- what is known there if the arms are the numbers of some kinds
+abbrev OfNone : ℕ → Type 0 → List ErrorKind → Type 0
+OfNone n P [] = P
+OfNone n P (k ∷ ks) = OfNone n (P × (n ≡ number k → ⊥)) ks
+
+none-among : (n : ℕ) (P : Type 0) (ks : List ErrorKind) → OfNone n P ks → P × (kindAmong ks n ≡ none)
+unfolding kindAmong
+none-among n P [] h = (h, refl)
+none-among n P (k ∷ ks) h =
+    let r = none-among n (P × (n ≡ number k → ⊥)) ks h in
+    (r .0 .0, rw (ne-eqb (number k) n (λ e. r .0 .1 (sym e)), kindAmong) (r .1))
+
+pub kind-none : (n : ℕ) → OfNone n (Unit {0}) kinds → KindFound.Nothing ≡ foundKind (kindFrom n)
+unfolding kindFrom foundKind
+kind-none n h = rw (none-among n (Unit {0}) kinds h .1, kindFrom) refl
 
 pub target-back : (x : Target) → getD targets (targetNumber x) Target.Taproot ≡ x
 target-back Target.Legacy = refl

@@ -1,7 +1,9 @@
 -- Enum numbers follow the order in src/ast.rs, from 0.
-use Prim.Native.Nat.{ℕ, _-_}
+use Prim.Native.Nat.{ℕ}
+use mathlib.Core.Bool.{true, false}
 use mathlib.Core.List.{List, [], _∷_}
-use lib.ListN.{getD}
+use mathlib.Core.Option.{Option, some, none}
+use lib.Dec.{eqb}
 use Rattle.ast.specs.declared.Target.{Target}
 use Rattle.ast.specs.declared.Target.the-variants.{Legacy, Segwit, Taproot}
 use Rattle.ast.specs.declared.Type.{«Type» as ItemType}
@@ -19,7 +21,9 @@ use Rattle.ast.specs.declared.UnaryCryptoOp.the-variants.{Sha256, Ripemd
 use Rattle.ast.specs.declared.LocktimeOp.{LocktimeOp}
 use Rattle.ast.specs.declared.LocktimeOp.the-variants.{Cltv, Csv}
 use Rattle.ast.specs.declared.ErrorKind.{ErrorKind}
-use Rattle.ast.specs.declared.ErrorKind.the-variants.{ListingTooLong, MalformedLine, UnexpectedLine, CeilingPassed, WorkTooShort, OutputTooShort, DuplicateVariable, UndefinedVariable, VariableConsumed, UnusedVariable, InvalidConsumptionOrder, TypeMismatch, InvalidOperation, NoReturn, UnreachableCode, DeclarationPathMismatch, IntegerOverflow, MalformedPubkey}
+use Rattle.ast.specs.declared.ErrorKind.the-variants.{ListingTooLong, MalformedLine, UnexpectedLine, CeilingPassed, WorkTooShort, OutputTooShort, DuplicateVariable, UndefinedVariable, VariableConsumed, UnusedVariable, InvalidConsumptionOrder, TypeMismatch, InvalidOperation, NoReturn, UnreachableCode, DeclarationPathMismatch, IntegerOverflow, MalformedPubkey, NoSuchPath, NotDue}
+use Rattle.ast.specs.declared.KindFound.{KindFound}
+use Rattle.ast.specs.Tree.{number}
 
 abbrev pub targets : List Target
 targets = Legacy ∷ Segwit ∷ Taproot ∷ []
@@ -92,11 +96,20 @@ abbrev pub locktimeNumber : LocktimeOp → ℕ
 locktimeNumber Cltv = 0
 locktimeNumber Csv = 1
 
--- the kinds by their numbers in document 01, from 1; 7 to 10 are none
+-- all kinds, in the order of their numbers
 abbrev pub kinds : List ErrorKind
-kinds =
-    ListingTooLong ∷ MalformedLine ∷ UnexpectedLine ∷ CeilingPassed ∷ WorkTooShort ∷ OutputTooShort ∷ OutputTooShort ∷ OutputTooShort ∷ OutputTooShort ∷ OutputTooShort ∷ DuplicateVariable ∷ UndefinedVariable ∷ VariableConsumed ∷ UnusedVariable ∷ InvalidConsumptionOrder ∷ TypeMismatch ∷ InvalidOperation ∷ NoReturn ∷ UnreachableCode ∷ DeclarationPathMismatch ∷ IntegerOverflow ∷ MalformedPubkey ∷ []
+kinds = ListingTooLong ∷ MalformedLine ∷ UnexpectedLine ∷ CeilingPassed ∷ WorkTooShort ∷ OutputTooShort ∷ DuplicateVariable ∷ UndefinedVariable ∷ VariableConsumed ∷ UnusedVariable ∷ InvalidConsumptionOrder ∷ TypeMismatch ∷ InvalidOperation ∷ NoReturn ∷ UnreachableCode ∷ DeclarationPathMismatch ∷ IntegerOverflow ∷ MalformedPubkey ∷ NoSuchPath ∷ NotDue ∷ []
 
--- the kind of a number
-unfoldable pub kindFrom : ℕ → ErrorKind
-kindFrom n = getD kinds (n - 1) MalformedPubkey
+-- the first of some kinds that has a number
+unfoldable pub kindAmong : List ErrorKind → ℕ → Option ErrorKind
+kindAmong [] n = none
+kindAmong (k ∷ ks) n = elim (eqb (number k) n) [ true ↦ some k | false ↦ kindAmong ks n ]
+
+-- the kind of a number; none of a number that is no kind's
+unfoldable pub kindFrom : ℕ → Option ErrorKind
+kindFrom n = kindAmong kinds n
+
+-- a kind, as the code has it
+unfoldable pub foundKind : Option ErrorKind → KindFound
+foundKind none = KindFound.Nothing
+foundKind (some k) = KindFound.Kind k

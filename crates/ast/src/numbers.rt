@@ -1,7 +1,7 @@
 // Enum numbers follow the order in src/ast.rs, from 0. A number past the last variant stands for the last.
 ghost use mathlib.Core.Path.{_≡_};
 ghost use lib.ListN.{getD};
-ghost use Rattle.ast.specs.Numbers.{targets, types, logicalOps, compareOps, mathOps, unaryOps, cryptoOps, locktimeOps, typeNumber, kindFrom};
+ghost use Rattle.ast.specs.Numbers.{targets, types, logicalOps, compareOps, mathOps, unaryOps, cryptoOps, locktimeOps, typeNumber, kindFrom, foundKind};
 ghost use Rattle.ast.specs.Tree.{number};
 ghost use Rattle.ast.specs.declared.Target.the-variants.{Taproot};
 ghost use Rattle.ast.specs.declared.Type.the-variants.{Boolean};
@@ -15,6 +15,7 @@ use crate::BinaryCompareOp;
 use crate::BinaryLogicalOp;
 use crate::BinaryMathOp;
 use crate::ErrorKind;
+use crate::KindFound;
 use crate::LocktimeOp;
 use crate::Target;
 use crate::Type;
@@ -118,7 +119,7 @@ pub fn locktime_from(n: u32) -> LocktimeOp
     }
 }
 
-// The number of a kind in document 01.
+// The number of a kind in documents 01 and 02.
 pub fn error_number(k: ErrorKind) -> u32
     ensures { λ r. ⌜ r ≡ number k ⌝ }
 {
@@ -141,36 +142,36 @@ pub fn error_number(k: ErrorKind) -> u32
         ErrorKind::DeclarationPathMismatch => 20,
         ErrorKind::IntegerOverflow => 21,
         ErrorKind::MalformedPubkey => 22,
+        ErrorKind::NoSuchPath => 31,
+        ErrorKind::NotDue => 32,
     }
 }
 
-// The kind of a number; 7 to 10 are none, and stand for 6.
-pub fn error_from(n: u32) -> ErrorKind
-    ensures { λ r. ⌜ r ≡ kindFrom n ⌝ }
+// The kind of a number; nothing of a number that is no kind's.
+pub fn error_from(n: u32) -> KindFound
+    ensures { λ r. ⌜ r ≡ foundKind (kindFrom n) ⌝ }
 {
     match n {
-        0 => ErrorKind::ListingTooLong,
-        1 => ErrorKind::ListingTooLong,
-        2 => ErrorKind::MalformedLine,
-        3 => ErrorKind::UnexpectedLine,
-        4 => ErrorKind::CeilingPassed,
-        5 => ErrorKind::WorkTooShort,
-        6 => ErrorKind::OutputTooShort,
-        7 => ErrorKind::OutputTooShort,
-        8 => ErrorKind::OutputTooShort,
-        9 => ErrorKind::OutputTooShort,
-        10 => ErrorKind::OutputTooShort,
-        11 => ErrorKind::DuplicateVariable,
-        12 => ErrorKind::UndefinedVariable,
-        13 => ErrorKind::VariableConsumed,
-        14 => ErrorKind::UnusedVariable,
-        15 => ErrorKind::InvalidConsumptionOrder,
-        16 => ErrorKind::TypeMismatch,
-        17 => ErrorKind::InvalidOperation,
-        18 => ErrorKind::NoReturn,
-        19 => ErrorKind::UnreachableCode,
-        20 => ErrorKind::DeclarationPathMismatch,
-        21 => ErrorKind::IntegerOverflow,
-        _ => ErrorKind::MalformedPubkey,
+        1 => KindFound::Kind(ErrorKind::ListingTooLong),
+        2 => KindFound::Kind(ErrorKind::MalformedLine),
+        3 => KindFound::Kind(ErrorKind::UnexpectedLine),
+        4 => KindFound::Kind(ErrorKind::CeilingPassed),
+        5 => KindFound::Kind(ErrorKind::WorkTooShort),
+        6 => KindFound::Kind(ErrorKind::OutputTooShort),
+        11 => KindFound::Kind(ErrorKind::DuplicateVariable),
+        12 => KindFound::Kind(ErrorKind::UndefinedVariable),
+        13 => KindFound::Kind(ErrorKind::VariableConsumed),
+        14 => KindFound::Kind(ErrorKind::UnusedVariable),
+        15 => KindFound::Kind(ErrorKind::InvalidConsumptionOrder),
+        16 => KindFound::Kind(ErrorKind::TypeMismatch),
+        17 => KindFound::Kind(ErrorKind::InvalidOperation),
+        18 => KindFound::Kind(ErrorKind::NoReturn),
+        19 => KindFound::Kind(ErrorKind::UnreachableCode),
+        20 => KindFound::Kind(ErrorKind::DeclarationPathMismatch),
+        21 => KindFound::Kind(ErrorKind::IntegerOverflow),
+        22 => KindFound::Kind(ErrorKind::MalformedPubkey),
+        31 => KindFound::Kind(ErrorKind::NoSuchPath),
+        32 => KindFound::Kind(ErrorKind::NotDue),
+        _ => KindFound::Nothing,
     }
 }

@@ -1,4 +1,4 @@
-/* The Bithoven examiner: Check, Report and Name on a listing.
+/* The Bithoven examiner: Check, Report and Name on a listing, and rehearsing a witness.
  *
  * Link with libbithoven_examiner.a (x86-64; `rt staticlib bithoven_examiner` writes it to target/staticlib/).
  *
@@ -6,8 +6,8 @@
  * Nothing checks this at run time. docs/ARCHITECTURE.md says what was measured.
  *
  * No function allocates, keeps state, or reads or writes anything but its arguments; all may be called from several threads
- * at once. No pointer may be null, not even with length 0. `answer` must point to five words and `place` to two; what the
- * pointers of a call point to must not overlap.
+ * at once. No pointer may be null, not even with length 0. `answer` must point to five words, `due` to four, `place` and
+ * `rehearsal` to two; what the pointers of a call point to must not overlap, but that `name` may be a part of `listing`.
  */
 #ifndef BITHOVEN_EXAMINER_H
 #define BITHOVEN_EXAMINER_H
@@ -56,6 +56,36 @@ BITHOVEN_MUST_USE size_t bithoven_report(const uint8_t *listing, size_t listing_
  * Returns what bithoven_check returns: 0 if and only if the listing is accepted, be there such an item or not. */
 BITHOVEN_MUST_USE uint32_t bithoven_name(const uint8_t *listing, size_t listing_len, uint32_t path, uint32_t position,
                                          uint32_t place[2]);
+
+/* Rehearsing a witness: open on a listing and a path, then lay items and take them back until the path's items are laid.
+ *
+ * listing, listing_len   the bytes of the listing, the same with every call
+ * rehearsal              two numbers: the path, and the position due, 0 being the top. Each call is handed them as the last one
+ *                        left them; bithoven_rehearse_open writes the first ones
+ * due                    gets four numbers: 1, how many bytes of the listing precede the name of the item due, how many bytes
+ *                        the name has, and the item's type (0 signature, 1 number, 2 string, 3 boolean); four zeros if the
+ *                        rehearsal has ended, that is, if the items laid are all of the path's
+ * answer                 gets five numbers: zeros; or the number of a refusal and its location. A refusal leaves `rehearsal`
+ *                        and `due` as they were, and the rehearsal can go on
+ *
+ * Each call looks at the listing anew, and any two numbers are a rehearsal that is answered: bithoven_check's refusal comes
+ * first, then 31 if the listing has no such path, then, for bithoven_rehearse_lay only, 32. The last two are at 0,0,0,0.
+ *
+ * Each returns answer[0]: 0 unless the call is refused. */
+
+/* Open: the rehearsal of a path at its beginning, and the item due there. */
+BITHOVEN_MUST_USE uint32_t bithoven_rehearse_open(const uint8_t *listing, size_t listing_len, uint32_t path,
+                                                  uint32_t rehearsal[2], uint32_t due[4], uint32_t answer[5]);
+
+/* Lay: an item by its name and the number of its type. 32 unless an item is due and both are its; else the following item
+ * is due. */
+BITHOVEN_MUST_USE uint32_t bithoven_rehearse_lay(const uint8_t *listing, size_t listing_len, const uint8_t *name,
+                                                 size_t name_len, uint32_t type, uint32_t rehearsal[2], uint32_t due[4],
+                                                 uint32_t answer[5]);
+
+/* Take back: the item laid last is due again. At the beginning nothing is altered, and that is no refusal. */
+BITHOVEN_MUST_USE uint32_t bithoven_rehearse_take_back(const uint8_t *listing, size_t listing_len, uint32_t rehearsal[2],
+                                                       uint32_t due[4], uint32_t answer[5]);
 
 #ifdef __cplusplus
 }

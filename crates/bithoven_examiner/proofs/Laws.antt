@@ -5,9 +5,7 @@ use mathlib.Core.List.{List, [], _∷_}
 use mathlib.Core.Logic.{_↔_}
 use mathlib.Core.Option.{Option, some, none}
 use mathlib.Core.Path.{_≡_, refl, sym, ap, _∙_, subst}
-use borrow.Author.Tests.{eqb-false}
 use lib.ListN.{length, getD, take}
-use Rattle.ast.specs.Tree.{number}
 use Rattle.rows.specs.Work.{workWords}
 use Rattle.tables.proofs.State.{kind-some}
 use Rattle.text.specs.declared.Place.{Place}
@@ -26,7 +24,7 @@ use Rattle.bithoven_examiner.specs.Numbers.{numbersOf, placeNumbers}
 zero-accepts : (c : Verdict) → (getD (numbersOf c) 0 0 ≡ 0) ↔ (c ≡ Accepted)
 unfolding numbersOf
 zero-accepts Accepted = (λ h. refl, λ h. refl)
-zero-accepts (Refused x) = (λ h. absurd (eqb-false (number (x .kind)) 0 (kind-some (x .kind)) h), λ h. let z : _≡_ {A = ℕ} 0 1 = cc in absurd (omega arith))
+zero-accepts (Refused x) = (λ h. absurd (kind-some (x .kind) h), λ h. let z : _≡_ {A = ℕ} 0 1 = cc in absurd (omega arith))
 
 -- what is promised of the number r, from what Check promised of its answer c
 pub number-promised : (s a : List ℕ) (c : Verdict) (r : ℕ) {words : ℕ} → words ≡ workWords → c ≡ check s words → (c ≡ Accepted) ↔ InOrder s words → a ≡ numbersOf c → r ≡ getD a 0 0 → (r ≡ getD (numbersOf (check s workWords)) 0 0) × ((a ≡ numbersOf (check s workWords)) × ((r ≡ 0) ↔ InOrder s workWords))

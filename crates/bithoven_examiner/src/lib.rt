@@ -1,4 +1,4 @@
-// Check, Report and Name for C and Rust. Work memory is the function's own.
+// Check, Report and Name for C and Rust, and rehearsing a witness. Work memory is the function's own.
 ghost use mathlib.Core.Path.{_≡_};
 ghost use mathlib.Core.Logic.{_↔_};
 ghost use lib.ListN.{length, getD, take};
@@ -16,6 +16,8 @@ use examiner::Verdict;
 use examiner::check;
 use examiner::name::name_place;
 use examiner::report::report;
+
+mod rehearse; // rehearse.rt: rehearsing a witness
 
 // A refusal in numbers.
 fn put_fault(answer: &mut [u32; 5], x: CompileError)

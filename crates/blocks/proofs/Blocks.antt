@@ -30,10 +30,10 @@ use Rattle.paths.specs.declared.NamePlace.{NamePlace}
 use Rattle.paths.specs.declared.Path.{Path}
 use Rattle.paths.specs.Path.{tableOf, WellFormed}
 use Rattle.declarations.specs.declared.Declared.{Declared}
-use Rattle.tables.specs.State.{tablesOf, Ready, faultIn, nextIn, branchIn, outcome, Moved, passed}
+use Rattle.tables.specs.State.{tablesOf, Ready, nextIn, branchIn, outcome, Moved, passed}
 use Rattle.statements.specs.Steps.{tablesWith, OnPath, examined}
 use Rattle.statements.proofs.Walking.{at-next}
-use Rattle.tables.proofs.State.{passed-says, passed-zero, outcome-pass, outcome-fault, element-set, set-past, table-at, table-past}
+use Rattle.tables.proofs.State.{passed-says, passed-zero, outcome-pass, outcome-fault, moved-refused, element-set, set-past, table-at, table-past}
 
 -- the else-block b of an if at l: from w, where the walk of the if-block has come to, to the next path, t being the table after the condition
 abbrev pub walkElse : Block → Target → Location → Table → Walk → Result Walk
@@ -43,11 +43,13 @@ walkElse b g l t w = cross l t w >>= λ w′. walk b g (w′ .tables) (w′ .bra
 pub moved-as : {s t : List ℕ} {d : Declared} {w v : Result Walk} {j k : ℕ} {rows : List (List NamePlace)} {taken out : List ℕ} → Moved s t d w j rows taken out → w ≡ v → j ≡ k → Moved s t d v k rows taken out
 moved-as m e q = record { result = m .result ∙ e; full = m .full; next = λ z. m .next z ∙ q; ready = m .ready; refused = m .refused }
 
--- a step that refused, as the result of what would have gone on
+-- a step that refused
+pub moved-fault : {s t : List ℕ} {d : Declared} {w : Result Walk} {j : ℕ} {rows : List (List NamePlace)} {taken out : List ℕ} (m : Moved s t d w j rows taken out) (z : getD out 0 0 ≡ 0 → ⊥) → w ≡ err (m .refused z .0)
+moved-fault {s} {t} {d} {rows = rows} {taken = taken} m z = sym (m .result) ∙ outcome-fault (m .refused z .1) (tablesOf s t d rows taken)
+
+-- as the result of what would have gone on
 pub moved-stop : {s t : List ℕ} {d : Declared} {w : Result Walk} {j : ℕ} {rows : List (List NamePlace)} {taken out : List ℕ} → Moved s t d w j rows taken out → (getD out 0 0 ≡ 0 → ⊥) → (v : Result Walk) (k : ℕ) → ((x : CompileError) → w ≡ err x → v ≡ err x) → Moved s t d v k rows taken out
-moved-stop {s} {t} {d} {rows = rows} {taken = taken} {out = out} m z v k f =
-    let e = outcome-fault (tablesOf s t d rows taken) out z in
-    record { result = e ∙ sym (f (faultIn out) (sym (m .result) ∙ e)); full = m .full; next = λ y. absurd (z y); ready = λ y. absurd (z y); refused = m .refused }
+moved-stop m z v k f = moved-refused (m .refused z .1) (f _ (moved-fault m z))
 
 -- a step that passed
 pub moved-on : {s t : List ℕ} {d : Declared} {w : Result Walk} {j : ℕ} {rows : List (List NamePlace)} {taken out : List ℕ} → Moved s t d w j rows taken out → getD out 0 0 ≡ 0 → w ≡ ok (record { tables = tablesOf s t d rows taken; branch = branchIn out })

@@ -4,16 +4,21 @@ use native.Mathlib.Omega.{arith}
 use mathlib.Core.Bool.{Bool, true, false}
 use mathlib.Core.List.{List, [], _∷_, map, reverse, reverseAux}
 use mathlib.Core.Option.{Option, some, none, Option·map}
-use mathlib.Core.Path.{_≡_, refl, sym, ap, ap₂, _∙_, subst}
+use mathlib.Core.Path.{_≡_, refl, sym, ap, ap₂, _∙_}
 use borrow.Author.Tests.{ltb-true, ltb-false}
 use lib.Dec.{ltb}
 use lib.ListN.{getD, getElem?, length-reverse, List·getD-eq-default, List·getD-map}
-use Rattle.ast.specs.Tree.{StackParam}
+use Rattle.ast.specs.declared.Location.{Location}
+use Rattle.ast.specs.declared.Type.{«Type» as ItemType}
+use Rattle.ast.specs.Tree.{StackParam, Contract, fromTop}
+use Rattle.text.specs.declared.Place.{Place}
+use Rattle.listing.specs.declared.Line.{Line}
 use Rattle.listing.specs.Kinds.{partOf}
 use Rattle.rows.specs.Rows.{lineIn}
-use Rattle.reader.specs.Ceilings.{maxLines}
+use Rattle.reader.specs.Ceilings.{maxLines, maxItems}
 use Rattle.reader.specs.Reading.{item}
-use Rattle.reader.specs.Spells.{SpellsItems}
+use Rattle.reader.specs.Spells.{SpellsItems, SpellsDeclarations, SpellsContract}
+use Rattle.rules.specs.Stack.{declarationOf}
 use Rattle.names.specs.declared.Item.{Item}
 use Rattle.names.specs.Items.{lineOf, HoldsItem, Inside}
 use Rattle.declarations.specs.declared.Declared.{Declared}
@@ -48,6 +53,17 @@ found-none e = sym (ap found e)
 pub found-some : {o : Option Item} {q : Item} → o ≡ some q → ItemFound.Item q ≡ found o
 unfolding found
 found-some e = sym (ap found e)
+
+-- and back
+pub found-is : (o : Option Item) {q : Item} → ItemFound.Item q ≡ found o → o ≡ some q
+unfolding found
+found-is none e = let z : _≡_ {A = ℕ} 0 1 = cc in absurd (omega arith)
+found-is (some x) {q} e = let same : x ≡ q = cc in ap some same
+
+pub found-not : (o : Option Item) → ItemFound.Nothing ≡ found o → o ≡ none
+unfolding found
+found-not none e = refl
+found-not (some x) e = let z : _≡_ {A = ℕ} 0 1 = cc in absurd (omega arith)
 
 -- a line holds one item
 same-item : {p q : Item} → lineOf p ≡ lineOf q → p ≡ q
@@ -97,23 +113,67 @@ module _ {s t : List ℕ} {n : ℕ} (st : ContractAt s t n) {d : Declared} (e : 
       unfolding itemAt
       item-here k below f = let a = item-from-top (lineIn t) Item wholeItem items k below in a .2 ∙ ap some (same-item (sym (a .1) ∙ f))
 
-    -- the name of an item lies in the listing
-    pub item-inside : (path k : ℕ) {q : Item} → itemAt ps path k ≡ some q → Inside s (q .name)
-    unfolding partOf
-    item-inside path k {q} f = declared (ltb path (d .count)) refl
+    -- an item that is looked up stands in a row of its path
+    item-row : (path k : ℕ) {q : Item} → itemAt ps path k ≡ some q → (path < d .count) × (k < getD (d .counts) path 0) × (lineIn t (getD (d .firsts) path 0 + (getD (d .counts) path 0 - 1 - k)) ≡ lineOf q)
+    item-row path k {q} f = declared (ltb path (d .count)) refl
       where
-        absent : itemAt ps path k ≡ none → Inside s (q .name)
+        absent : {A : Type 0} → itemAt ps path k ≡ none → A
         absent a = let z : none ≡ some q = sym a ∙ f in let o : _≡_ {A = ℕ} 0 1 = cc in absurd (omega arith)
 
-        inside : (lt : path < d .count) (b : Bool) → ltb k (getD (d .counts) path 0) ≡ b → Inside s (q .name)
-        inside lt false g = absent (past-items path lt k (ltb-false k (getD (d .counts) path 0) g))
-        inside lt true g =
+        there : (lt : path < d .count) (b : Bool) → ltb k (getD (d .counts) path 0) ≡ b → (path < d .count) × (k < getD (d .counts) path 0) × (lineIn t (getD (d .firsts) path 0 + (getD (d .counts) path 0 - 1 - k)) ≡ lineOf q)
+        there lt false g = absent (past-items path lt k (ltb-false k (getD (d .counts) path 0) g))
+        there lt true g =
             let below = ltb-true k (getD (d .counts) path 0) g in
-            let a = item-from-top (lineIn t) StackParam (item s) (own .items path lt .spells) k below in
+            let a = item-from-top (lineIn t) Item wholeItem (items path lt) k below in
             let z : some (a .0) ≡ some q = sym (item-here path lt k below (a .1)) ∙ f in
             let same : a .0 ≡ q = cc in
-            subst (λ q. Inside s (q .name)) same (st .rows .parts (getD (d .firsts) path 0 + (getD (d .counts) path 0 - 1 - k)) (omega (arith, own .items path lt .within)) (a .0 .name) (ap partOf (a .1)))
+            (lt, below, a .1 ∙ ap lineOf same)
 
-        declared : (b : Bool) → ltb path (d .count) ≡ b → Inside s (q .name)
+        declared : (b : Bool) → ltb path (d .count) ≡ b → (path < d .count) × (k < getD (d .counts) path 0) × (lineIn t (getD (d .firsts) path 0 + (getD (d .counts) path 0 - 1 - k)) ≡ lineOf q)
         declared false g = absent (past-paths path k (ltb-false path (d .count) g))
-        declared true g = inside (ltb-true path (d .count) g) (ltb k (getD (d .counts) path 0)) refl
+        declared true g = there (ltb-true path (d .count) g) (ltb k (getD (d .counts) path 0)) refl
+
+    -- its name lies in the listing
+    pub item-inside : (path k : ℕ) {q : Item} → itemAt ps path k ≡ some q → Inside s (q .name)
+    unfolding partOf
+    item-inside path k {q} f = let r = item-row path k f in st .rows .parts _ (omega (arith, own .items path (r .0) .within, r .1)) (q .name) (ap partOf (r .2))
+
+    -- and a declaration has few of them
+    pub item-below : (path k : ℕ) {q : Item} → itemAt ps path k ≡ some q → k < maxItems
+    item-below path k f = let r = item-row path k f in omega (arith, own .items path (r .0) .few, r .1)
+
+    -- it is the item of the contract's declaration
+    pub item-declared : (c : Contract) → SpellsContract (lineIn t) s c n → (path k : ℕ) → path < d .count → Option·map (λ q. item s (q .loc) (q .ty) (q .name)) (itemAt ps path k) ≡ getElem? (fromTop (declarationOf c path)) k
+    item-declared c sp path k lt = go (ltb k (getD (d .counts) path 0)) refl
+      where
+        spelled : SpellsItems (lineIn t) StackParam (item s) (getD (d .counts) path 0) (getD (d .firsts) path 0) (declarationOf c path) (getD (d .firsts) path 0 + getD (d .counts) path 0)
+        spelled = declared-as st e c sp .items path lt .spells
+
+        go : (b : Bool) → ltb k (getD (d .counts) path 0) ≡ b → Option·map (λ q. item s (q .loc) (q .ty) (q .name)) (itemAt ps path k) ≡ getElem? (fromTop (declarationOf c path)) k
+        go true g =
+            let below = ltb-true k (getD (d .counts) path 0) g in
+            let a = item-from-top (lineIn t) StackParam (item s) spelled k below in
+            ap (Option·map (λ q. item s (q .loc) (q .ty) (q .name))) (item-here path lt k below (a .1)) ∙ sym (a .2)
+        go false g =
+            let above = ltb-false k (getD (d .counts) path 0) g in
+            ap (Option·map (λ q. item s (q .loc) (q .ty) (q .name))) (past-items path lt k above) ∙ sym (past (fromTop (declarationOf c path)) k (omega (arith, length-reverse (declarationOf c path), items-count spelled)))
+
+-- ---- the rows of a contract declare items
+
+whole-items : {L : ℕ → Line} {A : Type 0} {make : Location → ItemType → Place → A} {n i j : ℕ} {xs : List A} → SpellsItems L A make n i xs j → (ys : List Item) × SpellsItems L Item wholeItem n i ys j
+whole-items SpellsItems.nil = ([], SpellsItems.nil)
+whole-items (SpellsItems.cons {l = l} {t = t} {x = x} q r u) = let w = whole-items u in (wholeItem l t x ∷ w .0, SpellsItems.cons q refl (w .1))
+
+whole-declarations : {L : ℕ → Line} {A : Type 0} {make : Location → ItemType → Place → A} {n i j : ℕ} {xs : List (List A)} → SpellsDeclarations L A make n i xs j → (ys : List (List Item)) × SpellsDeclarations L Item wholeItem n i ys j
+whole-declarations SpellsDeclarations.nil = ([], SpellsDeclarations.nil)
+whole-declarations (SpellsDeclarations.cons q u v) = let x = whole-items u in let y = whole-declarations v in (x .0 ∷ y .0, SpellsDeclarations.cons q (x .1) (y .1))
+
+declares : {s t : List ℕ} {c : Contract} {n : ℕ} → SpellsContract (lineIn t) s c n → (ps : List (List Item)) × Declares t ps
+declares (SpellsContract.contract {j = j} {n = m} {g = g} q u v) = let w = whole-declarations u in (w .0, record { target = g; count = m; upto = j; header = q; spells = w .1 })
+
+-- what is found among them: its name lies in the listing, and its position is one of few
+pub found-inside : {s t : List ℕ} {n : ℕ} → ContractAt s t n → (path k : ℕ) {q : Item} {r : ItemFound} → r ≡ ItemFound.Item q → ((ps : List (List Item)) → Declares t ps → r ≡ found (itemAt ps path k)) → Inside s (q .name) × (k < maxItems)
+found-inside st path k e f =
+    let d = declares (st .spells) in
+    let i = found-is (itemAt (d .0) path k) (sym e ∙ f (d .0) (d .1)) in
+    (item-inside st refl (d .1) path k i, item-below st refl (d .1) path k i)

@@ -4,13 +4,14 @@ use native.Mathlib.Omega.{arith}
 use mathlib.Core.Bool.{Bool, true, false}
 use mathlib.Core.List.{List}
 use mathlib.Core.Logic.{_↔_}
-use mathlib.Core.Option.{some}
+use mathlib.Core.Option.{Option, some, none}
 use mathlib.Core.Path.{_≡_, refl, sym, ap, _∙_, subst}
-use borrow.Author.Tests.{ltb-false, le-ltb, eq-eqb, ne-eqb}
+use borrow.Author.Tests.{ltb-false, le-ltb}
 use lib.Dec.{ltb}
 use lib.ListN.{length, drop, getD}
 use Rattle.ast.specs.declared.ErrorKind.{ErrorKind}
 use Rattle.ast.specs.declared.ErrorKind.the-variants.{WorkTooShort}
+use Rattle.ast.specs.declared.KindFound.{KindFound}
 use Rattle.ast.specs.declared.CompileError.{CompileError}
 use Rattle.ast.specs.Tree.{Contract, fault, unplaced}
 use Rattle.listing.specs.declared.Line.{Line}
@@ -31,7 +32,7 @@ use Rattle.reader.specs.Spells.{SpellsContract, nth, linesOf, lineIn as lineOf}
 use Rattle.reading.specs.Held.{rowsOf, rowsLeft, listingRead, workRead, Spelled}
 use Rattle.reader.proofs.Complete.{reads-readable}
 use Rattle.rules.specs.Table.{Table}
-use Rattle.ast.specs.Numbers.{kindFrom}
+use Rattle.ast.specs.Numbers.{kindFrom, foundKind}
 use Rattle.declarations.specs.Items.{ContractAt}
 use Rattle.tables.specs.State.{locationIn, faultIn}
 use Rattle.analyze.specs.Analysis.{analyzed as numbered}
@@ -165,12 +166,15 @@ module _ (s w t : List ℕ) {y : ListingRead} (answered : y ≡ listingRead s (l
         let a : r ≡ check s (length w) = f (h .contract) (h .spells) ∙ sym (check-read s w t n h enough) in
         (a, (c ∙ work-read s w t n h enough held, demanded s (length w) r a))
 
--- the answer that the numbers of an analysis say
-module _ (ts : List Table) (out : List ℕ) where
-  pub says-pass : getD out 0 0 ≡ 0 → Verdict.Accepted ≡ verdict (numbered ts out)
-  unfolding numbered verdict
-  says-pass h = rw (eq-eqb (getD out 0 0) 0 h, numbered) refl
+-- the answer that the numbers of an analysis say, by the kind that is found in them
+abbrev said : List ℕ → KindFound → Verdict
+said out KindFound.Nothing = Verdict.Accepted
+said out (KindFound.Kind k) = Verdict.Refused (fault k (locationIn out))
 
-  pub says-fault : (getD out 0 0 ≡ 0 → ⊥) → (k : ErrorKind) → k ≡ kindFrom (getD out 0 0) → Verdict.Refused (record { loc = record { start = getD out 1 0; end = getD out 2 0; line = getD out 3 0; column = getD out 4 0 }; kind = k }) ≡ verdict (numbered ts out)
-  unfolding numbered verdict faultIn locationIn
-  says-fault h k e = rw (ne-eqb (getD out 0 0) 0 h, numbered, e) refl
+pub says : (ts : List Table) (out : List ℕ) (k : KindFound) → k ≡ foundKind (kindFrom (getD out 0 0)) → said out k ≡ verdict (numbered ts out)
+unfolding foundKind faultIn numbered verdict
+says ts out k e = ap (said out) e ∙ go (kindFrom (getD out 0 0)) refl
+  where
+    go : (o : Option ErrorKind) → kindFrom (getD out 0 0) ≡ o → said out (foundKind o) ≡ verdict (numbered ts out)
+    go none h = rw (h, numbered, faultIn) refl
+    go (some k) h = rw (h, numbered, faultIn) refl

@@ -34,7 +34,7 @@ use Rattle.declarations.specs.declared.ItemFound.{ItemFound}
 use Rattle.declarations.specs.Items.{ContractAt}
 use Rattle.declarations.specs.Noted.{rowPast, wholeItem, Declares, itemAt as itemFrom, found}
 use Rattle.declarations.proofs.Standing.{declarations-end}
-use Rattle.declarations.proofs.Looking.{item-at-map, item-inside}
+use Rattle.declarations.proofs.Looking.{item-at-map, found-is, found-not, item-inside}
 use Rattle.examiner.specs.declared.Verdict.{Verdict}
 use Rattle.examiner.specs.declared.name.Named.{Named}
 use Rattle.examiner.specs.Check.{verdict, check}
@@ -92,7 +92,7 @@ module _ (s t : List ℕ) (n : ℕ) (h : Spelled s t n) where
   within : places s (h .contract) (h .source) (h .reads) .1 .index ≤ n
   within = items-within (linesOf s) s (header s (h .contract) (h .source) (h .reads)) (spelled s (h .contract) (h .source) (h .reads)) (contract-agrees (lineIn t) (linesOf s) s (h .spells) (λ k i. sym (h .lines k i)))
 
-  listing-declares : Declares t (items s)
+  pub listing-declares : Declares t (items s)
   listing-declares =
       let w = within in
       let o = opened s (h .contract) (h .source) (h .reads) in
@@ -112,14 +112,11 @@ unfolding placeOr
 no-place e f = e ∙ sym (ap placeOr f)
 
 pub found-place : (o : Option Item) {x : Item} → ItemFound.Item x ≡ found o → x .name ≡ placeOr (nameOf o)
-unfolding found placeOr
-found-place none e = let z : _≡_ {A = ℕ} 0 1 = cc in absurd (omega arith)
-found-place (some y) {x} e = let same : x ≡ y = cc in ap (λ x. x .name) same
+unfolding placeOr
+found-place o e = sym (ap (λ o. placeOr (nameOf o)) (found-is o e))
 
 pub nothing-found : (o : Option Item) {r : Place} → ItemFound.Nothing ≡ found o → r ≡ record { at = 0; len = 0 } → r ≡ placeOr (nameOf o)
-unfolding found placeOr
-nothing-found none e f = f
-nothing-found (some y) e f = let z : _≡_ {A = ℕ} 0 1 = cc in absurd (omega arith)
+nothing-found o e f = no-place f (ap nameOf (found-not o e))
 
 -- by any answer
 abbrev namedBy : Verdict → Option Item → Named

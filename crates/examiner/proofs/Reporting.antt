@@ -4,9 +4,9 @@ use native.Mathlib.Omega.{arith}
 use mathlib.Core.Bool.{Bool, true, false}
 use mathlib.Core.List.{List, _++_}
 use mathlib.Core.Path.{_≡_, refl, sym, ap, _∙_}
-use borrow.Author.Tests.{lt-ltb, le-ltb, ltb-false, eqb-true}
-use lib.Dec.{ltb, eqb}
-use lib.ListN.{length, getD, take, drop, length-append, length-drop}
+use borrow.Author.Tests.{lt-ltb, le-ltb, ltb-false}
+use lib.Dec.{ltb}
+use lib.ListN.{length, take, drop, length-append, length-drop}
 use Rattle.ast.specs.declared.ErrorKind.the-variants.{WorkTooShort, OutputTooShort}
 use Rattle.ast.specs.declared.CompileError.{CompileError}
 use Rattle.ast.specs.Tree.{Contract, fault, unplaced}
@@ -24,6 +24,7 @@ use Rattle.paths.specs.declared.NamePlace.{NamePlace}
 use Rattle.declarations.specs.declared.Declared.{Declared}
 use Rattle.tables.specs.State.{tablesOf, Ready}
 use Rattle.analyze.specs.Analysis.{Analyzed, analyzed as numbered}
+use Rattle.analyze.proofs.Determined.{zero-out, tables-are}
 use Rattle.output.specs.Put.{most, puts, Room, Wrote}
 use Rattle.output.proofs.Laws.{puts-off, puts-whole}
 use Rattle.reporting.specs.Text.{fields, reportLine, acceptance, refusal, textOf}
@@ -121,14 +122,6 @@ unfolding verdict
 verdict-refused (ok ts) x h = absurd (refused≢accepted h)
 verdict-refused (err y) x h = let e : y ≡ x = cc in ap err e
 
-pub verdict-accepted : (ts : List Table) (out : List ℕ) → Verdict.Accepted ≡ verdict (numbered ts out) → (getD out 0 0 ≡ 0) × (numbered ts out ≡ ok ts)
-unfolding numbered verdict
-verdict-accepted ts out h = go (eqb (getD out 0 0) 0) refl
-  where
-    go : (b : Bool) → eqb (getD out 0 0) 0 ≡ b → (getD out 0 0 ≡ 0) × (numbered ts out ≡ ok ts)
-    go true e = (eqb-true (getD out 0 0) 0 e, rw (e, numbered) refl)
-    go false e = absurd (refused≢accepted (sym (rw (e, numbered) at h)))
-
 module _ (s w t out : List ℕ) {y : ListingRead} (enough : workWords ≤ length w) (answered : y ≡ listingRead s (length w)) (held : t ≡ workRead s w) where
   -- a listing that is not read
   pub report-refused : (x : CompileError) → y ≡ Refused x → (r : Reported) (o : List ℕ) → r ≡ reported (err x) (length out) → o ≡ written (textOf (err x)) out → Promised s w out r t o
@@ -149,7 +142,12 @@ module _ {s t : List ℕ} {d : Declared} {rows : List (List NamePlace)} {taken o
   found-fault x e = sym (verdict-refused w x (sym e ∙ says (tablesOf s t d rows taken) ∙ ap verdict (a .result)))
 
   pub found-tables : c ≡ Verdict.Accepted → Ready s t d rows taken × (ok (tablesOf s t d rows taken) ≡ w)
-  found-tables e = let p = verdict-accepted (tablesOf s t d rows taken) out (sym e ∙ says (tablesOf s t d rows taken)) in (a .ready (p .0), sym (p .1) ∙ a .result)
+  unfolding verdict
+  found-tables e = go w a (sym e ∙ says (tablesOf s t d rows taken) ∙ ap verdict (a .result))
+    where
+      go : (w : Result (List Table)) → Analyzed s t d w rows taken out → Verdict.Accepted ≡ verdict w → Ready s t d rows taken × (ok (tablesOf s t d rows taken) ≡ w)
+      go (ok ts) a h = (a .ready (zero-out a), ap ok (tables-are a))
+      go (err x) a h = absurd (refused≢accepted (sym h))
 
 -- a text that is handed back fits
 pub report-fits : (s : List ℕ) (words room : ℕ) → report s words room .length ≤ room

@@ -1,7 +1,7 @@
 // What the programs over stored listings have in common. A record of their files is a head that begins with the count of its bytes
 // in five digits, the bytes, and byte 10.
 ghost use mathlib.Core.Path.{_≡_};
-ghost use Prim.Native.Nat.{_%_};
+ghost use Prim.Native.Nat.{_%_, _+_};
 ghost use lib.ListN.{take, drop};
 ghost use Rattle.records.specs.Wrong.{wrongWord, wrongIn};
 ghost use Rattle.io.specs.Counts.{Counts};
@@ -120,4 +120,12 @@ pub fn not_cleared(work: &[u32; 16400]) -> u64
 {
     let words = &work[..];
     count_wrong(&words[..16384], 0, 0)
+}
+
+// How many words are not as Check leaves them: 16384 are zero, and those past them untouched.
+pub fn wrong_words(work: &[u32; 16400]) -> u64
+    ensures { λ r. ⌜ r ≡ wrongIn 0 (take 16384 (now (work .entry))) + wrongIn 7 (drop 16384 (now (work .entry))) ⌝ }
+{
+    let words = &work[..];
+    count_wrong(&words[..16384], 0, 0) + count_wrong(words, 16384, FILLED)
 }

@@ -4,7 +4,7 @@ use mathlib.Core.List.{List, [], _∷_, _++_}
 use mathlib.Core.Option.{Option, some, none}
 use lib.ListN.{length}
 use Rattle.ast.specs.declared.CompileError.{CompileError}
-use Rattle.ast.specs.Tree.{number}
+use Rattle.ast.specs.Tree.{Name, StackParam, number}
 use Rattle.ast.specs.Numbers.{typeNumber}
 use Rattle.rules.specs.Result.{Result, ok, err}
 use Rattle.rules.specs.Table.{Entry, Table}
@@ -24,9 +24,17 @@ unfoldable pub taker : Option ℕ → List (List ℕ)
 taker none = decimal 0 ∷ decimal 0 ∷ []
 taker (some n) = decimal 1 ∷ decimal n ∷ []
 
+-- a witness item as a line has it: its name, and the number of its type
+pub record WitnessItem : Type 0 where
+  pub name : Name
+  pub ty : ℕ
+
+abbrev pub itemOf : StackParam → WitnessItem
+itemOf p = record { name = p .identifier; ty = typeNumber (p .ty) }
+
 -- P,position,type,taken,listing line that takes it,name
 unfoldable pub itemLine : ℕ → Entry → List ℕ
-itemLine k e = reportLine 80 (decimal k ∷ decimal (typeNumber (e .param .ty)) ∷ (taker (e .taken) ++ e .param .identifier ∷ []))
+itemLine k e = let x = itemOf (e .param) in reportLine 80 (decimal k ∷ decimal (x .ty) ∷ (taker (e .taken) ++ x .name ∷ []))
 
 -- the items of a path from the top, k being the first position
 unfoldable pub itemLines : ℕ → Table → List ℕ

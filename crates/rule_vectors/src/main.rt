@@ -4,13 +4,12 @@ use ast::CompileError;
 use examiner::Verdict;
 use records::FILLED;
 use records::Head;
-use records::not_cleared;
 use records::print_number;
 use records::read_bytes;
 use records::read_end;
 use records::read_head;
-use records::touched_past;
 use records::wide;
+use records::wrong_words;
 
 // What Check answered. All are 0 where it accepted.
 struct Answer {
@@ -66,11 +65,6 @@ fn print_answer(index: u64, a: Answer) {
     print_number(a.end, b",");
     print_number(a.line, b",");
     print_number(a.column, b"\n");
-}
-
-// After a check 16384 words are zero; those past them are never touched.
-fn wrong_words(work: &[u32; 16400]) -> u64 {
-    std::num::wrapping_add_u64(not_cleared(work), touched_past(work))
 }
 
 fn accepted(a: Answer) -> u64 {

@@ -3,16 +3,16 @@ use Prim.Native.Nat.{ℕ, zero, suc, _+_, _/_, _≤_, _<_}
 use native.Mathlib.Omega.{arith}
 use mathlib.Core.Bool.{Bool, true, false}
 use mathlib.Core.List.{List, [], _∷_, map}
-use mathlib.Core.Option.{some, none}
+use mathlib.Core.Option.{Option, some, none}
 use mathlib.Core.Path.{_≡_, refl, sym, ap, _∙_, subst}
-use borrow.Author.Tests.{eq-eqb, ne-eqb, eqb-true, eqb-false}
+use borrow.Author.Tests.{eqb-true, eqb-false}
 use lib.Dec.{eqb}
 use lib.ListN.{length, getD, set, getElem?, replicate, length-set}
 use lib.Seq.{getD-set-same, getD-set-other}
 use Rattle.ast.specs.declared.ErrorKind.{ErrorKind}
 use Rattle.ast.specs.declared.CompileError.{CompileError}
 use Rattle.ast.specs.Tree.{number}
-use Rattle.ast.specs.Numbers.{kindFrom}
+use Rattle.ast.specs.Numbers.{kindAmong, kindFrom}
 use Rattle.nodes.specs.declared.Answer.the-variants.{Pass, Fault}
 use Rattle.rules.specs.Result.{Result, ok, err}
 use Rattle.rules.specs.Table.{Table, params}
@@ -26,8 +26,8 @@ use Rattle.declarations.specs.declared.Declared.{Declared}
 use Rattle.tables.specs.State.{pathAt, tablesFrom, tablesOf, PathReady, Ready, locationIn, faultIn, nextIn, branchIn, outcome, noneTaken, noRows, refusal, OnlyFault, Moved, passed, turned}
 
 -- a kind's number says the kind
-pub kind-back : (k : ErrorKind) → kindFrom (number k) ≡ k
-unfolding number kindFrom
+pub kind-back : (k : ErrorKind) → kindFrom (number k) ≡ some k
+unfolding number kindAmong kindFrom
 kind-back ErrorKind.ListingTooLong = refl
 kind-back ErrorKind.MalformedLine = refl
 kind-back ErrorKind.UnexpectedLine = refl
@@ -46,28 +46,16 @@ kind-back ErrorKind.UnreachableCode = refl
 kind-back ErrorKind.DeclarationPathMismatch = refl
 kind-back ErrorKind.IntegerOverflow = refl
 kind-back ErrorKind.MalformedPubkey = refl
+kind-back ErrorKind.NoSuchPath = refl
+kind-back ErrorKind.NotDue = refl
 
--- and is none of a pass
-pub kind-some : (k : ErrorKind) → eqb (number k) 0 ≡ false
-unfolding number
-kind-some ErrorKind.ListingTooLong = refl
-kind-some ErrorKind.MalformedLine = refl
-kind-some ErrorKind.UnexpectedLine = refl
-kind-some ErrorKind.CeilingPassed = refl
-kind-some ErrorKind.WorkTooShort = refl
-kind-some ErrorKind.OutputTooShort = refl
-kind-some ErrorKind.DuplicateVariable = refl
-kind-some ErrorKind.UndefinedVariable = refl
-kind-some ErrorKind.VariableConsumed = refl
-kind-some ErrorKind.UnusedVariable = refl
-kind-some ErrorKind.InvalidConsumptionOrder = refl
-kind-some ErrorKind.TypeMismatch = refl
-kind-some ErrorKind.InvalidOperation = refl
-kind-some ErrorKind.NoReturn = refl
-kind-some ErrorKind.UnreachableCode = refl
-kind-some ErrorKind.DeclarationPathMismatch = refl
-kind-some ErrorKind.IntegerOverflow = refl
-kind-some ErrorKind.MalformedPubkey = refl
+-- 0 is no kind's
+pub zero-none : kindFrom 0 ≡ none
+unfolding number kindAmong kindFrom
+zero-none = refl
+
+pub kind-some : (k : ErrorKind) → number k ≡ 0 → ⊥
+kind-some k z = let e : _≡_ {A = Option ErrorKind} (some k) none = sym (kind-back k) ∙ ap kindFrom z ∙ zero-none in let o : _≡_ {A = ℕ} 0 1 = cc in omega arith
 
 -- seven numbers
 record Seven (out : List ℕ) : Type 0 where
@@ -92,13 +80,13 @@ seven (a ∷ b ∷ c ∷ d ∷ e ∷ f ∷ g ∷ []) h = record { a = a; b = b; 
 seven (a ∷ b ∷ c ∷ d ∷ e ∷ f ∷ g ∷ k ∷ out) h = absurd (omega arith)
 
 -- the numbers of a fault say it
-pub refusal-fault : (x : CompileError) → faultIn (refusal x) ≡ x
+pub refusal-fault : (x : CompileError) → faultIn (refusal x) ≡ some x
 unfolding faultIn locationIn refusal
-refusal-fault x = rw (kind-back (x .kind)) refl
+refusal-fault x = rw (kind-back (x .kind), faultIn) refl
 
 pub refusal-some : (x : CompileError) → getD (refusal x) 0 0 ≡ 0 → ⊥
 unfolding refusal
-refusal-some x z = let q : _≡_ {A = Bool} true false = sym (eq-eqb (number (x .kind)) 0 z) ∙ kind-some (x .kind) in let o : _≡_ {A = ℕ} 0 1 = cc in omega arith
+refusal-some x z = kind-some (x .kind) z
 
 pub refusal-full : (x : CompileError) → length (refusal x) ≡ 7
 unfolding refusal
@@ -110,7 +98,7 @@ stored out h a b c d e f g = let v = seven out h in rw (v .is) refl
 
 -- the numbers of a pass
 pub passed-says : (out : List ℕ) (j : ℕ) (ts : List Table) → length out ≡ 7 → (outcome ts (passed out j) ≡ ok (record { tables = ts; branch = branchIn out })) × (nextIn (passed out j) ≡ j) × (length (passed out j) ≡ 7)
-unfolding outcome passed
+unfolding number kindAmong kindFrom faultIn outcome passed
 passed-says out j ts h = let v = seven out h in rw (v .is) (refl, refl, refl)
 
 pub passed-zero : (out : List ℕ) (j : ℕ) → length out ≡ 7 → getD (passed out j) 0 0 ≡ 0
@@ -119,7 +107,7 @@ passed-zero out j h = let v = seven out h in rw (v .is) refl
 
 -- the numbers of a pass on another path
 pub turned-says : (out : List ℕ) (n : ℕ) (ts : List Table) → length out ≡ 7 → (outcome ts (turned out n) ≡ ok (record { tables = ts; branch = n })) × (nextIn (turned out n) ≡ nextIn out) × (length (turned out n) ≡ 7)
-unfolding outcome turned
+unfolding number kindAmong kindFrom faultIn outcome turned
 turned-says out n ts h = let v = seven out h in rw (v .is) (refl, refl, refl)
 
 pub turned-branch : (out : List ℕ) (n : ℕ) → length out ≡ 7 → branchIn (turned out n) ≡ n
@@ -127,32 +115,33 @@ unfolding turned
 turned-branch out n h = let v = seven out h in rw (v .is) refl
 
 -- what the numbers say of a step's result
+pub fault-none : (out : List ℕ) → getD out 0 0 ≡ 0 → faultIn out ≡ none
+unfolding faultIn
+fault-none out h = rw (h, zero-none, faultIn) refl
+
 pub outcome-pass : (ts : List Table) (out : List ℕ) → getD out 0 0 ≡ 0 → outcome ts out ≡ ok (record { tables = ts; branch = branchIn out })
 unfolding outcome
-outcome-pass ts out h = rw (eq-eqb (getD out 0 0) 0 h, outcome)
-
-pub outcome-fault : (ts : List Table) (out : List ℕ) → (getD out 0 0 ≡ 0 → ⊥) → outcome ts out ≡ err (faultIn out)
-unfolding outcome
-outcome-fault ts out h = rw (ne-eqb (getD out 0 0) 0 h, outcome)
+outcome-pass ts out h = rw (fault-none out h, outcome)
 
 -- a step that refused: nothing is left but its fault
 module _ {x : CompileError} {rows : List (List NamePlace)} {taken out : List ℕ} (f : OnlyFault x rows taken out) where
   pub fault-some : getD out 0 0 ≡ 0 → ⊥
   fault-some z = refusal-some x (sym (ap (λ o. getD o 0 0) (f .numbers)) ∙ z)
 
-  pub fault-in : faultIn out ≡ x
+  pub fault-in : faultIn out ≡ some x
   fault-in = ap faultIn (f .numbers) ∙ refusal-fault x
 
-  pub fault-only : OnlyFault (faultIn out) rows taken out
-  fault-only = record { no-places = f .no-places; none-taken = f .none-taken; numbers = f .numbers ∙ ap refusal (sym fault-in) }
+  pub outcome-fault : (ts : List Table) → outcome ts out ≡ err x
+  unfolding outcome
+  outcome-fault ts = rw (fault-in, outcome)
 
   pub moved-refused : {s t : List ℕ} {d : Declared} {w : Result Walked} {j : ℕ} → w ≡ err x → Moved s t d w j rows taken out
   moved-refused {s} {t} {d} e = record {
-    result = outcome-fault (tablesOf s t d rows taken) out fault-some ∙ ap err fault-in ∙ sym e;
+    result = outcome-fault (tablesOf s t d rows taken) ∙ sym e;
     full = ap length (f .numbers) ∙ refusal-full x;
     next = λ z. absurd (fault-some z);
     ready = λ z. absurd (fault-some z);
-    refused = λ z. fault-only;
+    refused = λ z. (x, f);
   }
 
 -- before anything is built

@@ -1,9 +1,8 @@
 -- The state of the walk over the statements: the rows of name places, the taken sets, and the answer in numbers.
 use Prim.Native.Nat.{ℕ, zero, suc, _+_, _≤_, _<_}
-use mathlib.Core.Bool.{true, false}
 use mathlib.Core.List.{List, [], _∷_}
+use mathlib.Core.Option.{Option, some, none}
 use mathlib.Core.Path.{_≡_}
-use lib.Dec.{eqb}
 use lib.ListN.{length, getD, set, replicate}
 use Rattle.ast.specs.declared.Location.{Location}
 use Rattle.ast.specs.declared.CompileError.{CompileError}
@@ -59,8 +58,9 @@ pub record Ready (s t : List ℕ) (d : Declared) (rows : List (List NamePlace)) 
 unfoldable pub locationIn : List ℕ → Location
 locationIn out = record { start = getD out 1 0; end = getD out 2 0; line = getD out 3 0; column = getD out 4 0 }
 
-unfoldable pub faultIn : List ℕ → CompileError
-faultIn out = fault (kindFrom (getD out 0 0)) (locationIn out)
+-- the fault of the kind that the first number stands for; none if it is no kind's, as 0
+unfoldable pub faultIn : List ℕ → Option CompileError
+faultIn out = elim (kindFrom (getD out 0 0)) [ none ↦ none | some k ↦ some (fault k (locationIn out)) ]
 
 abbrev pub nextIn : List ℕ → ℕ
 nextIn out = getD out 5 0
@@ -70,7 +70,7 @@ branchIn out = getD out 6 0
 
 -- as the rules have it
 unfoldable pub outcome : List Table → List ℕ → Result Walked
-outcome ts out = elim (eqb (getD out 0 0) 0) [ true ↦ ok (record { tables = ts; branch = branchIn out }) | false ↦ err (faultIn out) ]
+outcome ts out = elim (faultIn out) [ none ↦ ok (record { tables = ts; branch = branchIn out }) | some x ↦ err x ]
 
 -- numbers that say a refusal: no next row, no path in use
 unfoldable pub refusal : CompileError → List ℕ
@@ -88,7 +88,7 @@ pub record Moved (s t : List ℕ) (d : Declared) (w : Result Walked) (j : ℕ) (
   pub full : length out ≡ 7
   pub next : getD out 0 0 ≡ 0 → nextIn out ≡ j
   pub ready : getD out 0 0 ≡ 0 → Ready s t d rows taken
-  pub refused : (getD out 0 0 ≡ 0 → ⊥) → OnlyFault (faultIn out) rows taken out
+  pub refused : (getD out 0 0 ≡ 0 → ⊥) → (x : CompileError) × OnlyFault x rows taken out
 
 -- numbers that say a pass to a row
 unfoldable pub passed : List ℕ → ℕ → List ℕ

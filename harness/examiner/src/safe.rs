@@ -10,6 +10,31 @@ extern "C" {
     fn bithoven_check(listing: *const u8, length: usize, answer: *mut u32) -> u32;
     fn bithoven_report(listing: *const u8, length: usize, output: *mut u8, room: usize, answer: *mut u32) -> usize;
     fn bithoven_name(listing: *const u8, length: usize, path: u32, position: u32, place: *mut u32) -> u32;
+    fn bithoven_rehearse_open(
+        listing: *const u8,
+        length: usize,
+        path: u32,
+        rehearsal: *mut u32,
+        due: *mut u32,
+        answer: *mut u32,
+    ) -> u32;
+    fn bithoven_rehearse_lay(
+        listing: *const u8,
+        length: usize,
+        name: *const u8,
+        name_length: usize,
+        ty: u32,
+        rehearsal: *mut u32,
+        due: *mut u32,
+        answer: *mut u32,
+    ) -> u32;
+    fn bithoven_rehearse_take_back(
+        listing: *const u8,
+        length: usize,
+        rehearsal: *mut u32,
+        due: *mut u32,
+        answer: *mut u32,
+    ) -> u32;
 }
 
 /// A call takes up to 1.1 MB of its thread's stack, and nothing checks it: each is made on a thread with this much.
@@ -31,7 +56,11 @@ pub struct Refusal {
 impl fmt::Display for Refusal {
     fn fmt(&self, f: &mut fmt::Formatter) -> fmt::Result {
         let Refusal { number, start, end, line, column } = self;
-        write!(f, "refused, {number} at line {line}, column {column} (bytes {start} to {end})")
+        match number {
+            31 => write!(f, "refused, 31: no such path"),
+            32 => write!(f, "refused, 32: not the item due"),
+            _ => write!(f, "refused, {number} at line {line}, column {column} (bytes {start} to {end})"),
+        }
     }
 }
 
@@ -88,6 +117,107 @@ pub fn name(listing: &[u8], path: u32, position: u32) -> Result<Option<&[u8]>, R
     Ok(if length == 0 { None } else { Some(&listing[at..at + length]) })
 }
 
+/// The type of an item.
+#[derive(Clone, Copy, Debug, PartialEq, Eq)]
+pub enum Type {
+    Signature = 0,
+    Number = 1,
+    String = 2,
+    Boolean = 3,
+}
+
+/// An item of a path: its name, as the listing holds it, and its type.
+#[derive(Clone, Copy, Debug, PartialEq, Eq)]
+pub struct Item<'a> {
+    pub name: &'a [u8],
+    pub ty: Type,
+}
+
+/// What a rehearsal shows.
+#[derive(Clone, Copy, Debug, PartialEq, Eq)]
+pub enum Shown<'a> {
+    /// The item to lay next.
+    Due(Item<'a>),
+    /// The items laid are all items of the path, from the top.
+    Ended,
+}
+
+/// A rehearsal: the items of one path are laid in order, from the top, and can be taken back. It keeps how many are laid, and
+/// no listing: each call is lent the one that was opened. A refusal leaves the rehearsal as it was.
+#[derive(Clone, Copy, Debug, PartialEq, Eq)]
+pub struct Rehearsal {
+    path: u32,
+    position: u32,
+}
+
+/// What the calls of a rehearsal write.
+struct Words {
+    rehearsal: [u32; 2],
+    due: [u32; 4],
+    answer: [u32; 5],
+}
+
+impl Rehearsal {
+    /// Opens a rehearsal of a path, 0 being the first. 31 if the path does not exist.
+    pub fn open(listing: &[u8], path: u32) -> Result<(Rehearsal, Shown<'_>), Refusal> {
+        let mut opened = Rehearsal { path, position: 0 };
+        // SAFETY: the listing has the length given, the words are two, four and five, and none of them overlap.
+        let shown = opened.call(listing, |Words { rehearsal, due, answer }| unsafe {
+            let (rehearsal, due, answer) = (rehearsal.as_mut_ptr(), due.as_mut_ptr(), answer.as_mut_ptr());
+            bithoven_rehearse_open(listing.as_ptr(), listing.len(), path, rehearsal, due, answer)
+        })?;
+        Ok((opened, shown))
+    }
+
+    /// Lays an item. 32 if it is not the one due, also if none is due.
+    pub fn lay<'a>(&mut self, listing: &'a [u8], name: &[u8], ty: Type) -> Result<Shown<'a>, Refusal> {
+        // SAFETY: as above; the name has the length given, and may be a part of the listing, which is only read.
+        self.call(listing, |Words { rehearsal, due, answer }| unsafe {
+            let (rehearsal, due, answer) = (rehearsal.as_mut_ptr(), due.as_mut_ptr(), answer.as_mut_ptr());
+            bithoven_rehearse_lay(listing.as_ptr(), listing.len(), name.as_ptr(), name.len(), ty as u32, rehearsal, due, answer)
+        })
+    }
+
+    /// Takes the last item back; at the beginning nothing changes.
+    pub fn take_back<'a>(&mut self, listing: &'a [u8]) -> Result<Shown<'a>, Refusal> {
+        // SAFETY: as above.
+        self.call(listing, |Words { rehearsal, due, answer }| unsafe {
+            let (rehearsal, due, answer) = (rehearsal.as_mut_ptr(), due.as_mut_ptr(), answer.as_mut_ptr());
+            bithoven_rehearse_take_back(listing.as_ptr(), listing.len(), rehearsal, due, answer)
+        })
+    }
+
+    /// The path.
+    pub fn path(&self) -> u32 {
+        self.path
+    }
+
+    /// How many items are laid: the position of the item due, 0 being the top.
+    pub fn laid(&self) -> u32 {
+        self.position
+    }
+
+    fn call<'a>(&mut self, listing: &'a [u8], call: impl FnOnce(&mut Words) -> u32 + Send) -> Result<Shown<'a>, Refusal> {
+        let mut words = Words { rehearsal: [self.path, self.position], due: [0; 4], answer: [0; 5] };
+        let lent = &mut words;
+        on_a_deep_stack(move || call(lent));
+        answered(words.answer)?;
+        [self.path, self.position] = words.rehearsal;
+        let [due, at, length, ty] = words.due;
+        if due == 0 {
+            return Ok(Shown::Ended);
+        }
+        let ty = match ty {
+            0 => Type::Signature,
+            1 => Type::Number,
+            2 => Type::String,
+            3 => Type::Boolean,
+            _ => unreachable!("{ty} is no type"),
+        };
+        Ok(Shown::Due(Item { name: &listing[at as usize..][..length as usize], ty }))
+    }
+}
+
 #[cfg(test)]
 mod tests {
     use super::*;
@@ -126,5 +256,93 @@ mod tests {
     fn listings_of_no_bytes_and_of_too_many() {
         assert_eq!(check(b"").map_err(|r| (r.number, r.line)), Err((3, 1)));
         assert_eq!(check(&[b'B'; 32769]).map_err(|r| (r.number, r.line)), Err((1, 0)));
+    }
+
+    /// Document 01, "One contract whole". Path 0 has c and p, path 1 has c and n.
+    const WORKED: &[u8] = b"T,0,2\nD,2\nP,0,1,1,0,2,p\nP,3,4,1,3,3,c\nD,2\nP,6,7,2,0,1,n\nP,9,10,2,3,3,c\nB,1\n\
+        I,20,60,3,0,1\nv,23,24,3,3,c\nB,1\nE,30,44,4,0\nc,37,44,4,7,0\nh,37,40,4,7,0\nv,38,39,4,8,p\n\
+        s,42,44,4,12,6161,0\nB,1\nE,50,58,6,0\nc,53,58,6,3,0\nv,53,54,6,3,n\nn,57,58,6,7,7\n";
+
+    fn due(name: &str, ty: Type) -> Shown<'_> {
+        Shown::Due(Item { name: name.as_bytes(), ty })
+    }
+
+    fn number<T>(answer: Result<T, Refusal>) -> Result<T, u32> {
+        answer.map_err(|refusal| refusal.number)
+    }
+
+    #[test]
+    fn a_rehearsal_to_its_end() {
+        for (path, below, ty) in [(0, "p", Type::String), (1, "n", Type::Number)] {
+            let (mut rehearsal, shown) = Rehearsal::open(WORKED, path).unwrap();
+            assert_eq!(shown, due("c", Type::Boolean));
+            assert_eq!(rehearsal.lay(WORKED, b"c", Type::Boolean), Ok(due(below, ty)));
+            assert_eq!(rehearsal.lay(WORKED, below.as_bytes(), ty), Ok(Shown::Ended));
+            assert_eq!((rehearsal.path(), rehearsal.laid()), (path, 2));
+            // after the end
+            assert_eq!(number(rehearsal.lay(WORKED, below.as_bytes(), ty)), Err(32));
+            assert_eq!(number(rehearsal.lay(WORKED, b"", Type::Signature)), Err(32));
+            assert_eq!(rehearsal.laid(), 2);
+            assert_eq!(rehearsal.take_back(WORKED), Ok(due(below, ty)));
+            assert_eq!(rehearsal.lay(WORKED, below.as_bytes(), ty), Ok(Shown::Ended));
+        }
+        assert_eq!(Rehearsal::open(ACCEPTED, 0).unwrap().1, Shown::Ended);
+    }
+
+    #[test]
+    fn an_item_as_it_was_shown_is_the_one_due() {
+        let (mut rehearsal, mut shown) = Rehearsal::open(WORKED, 1).unwrap();
+        while let Shown::Due(item) = shown {
+            shown = rehearsal.lay(WORKED, item.name, item.ty).unwrap();
+        }
+        assert_eq!(rehearsal.laid(), 2);
+    }
+
+    #[test]
+    fn wrong_items_change_nothing() {
+        let (mut rehearsal, _) = Rehearsal::open(WORKED, 0).unwrap();
+        let before = rehearsal;
+        let wrong: [(&[u8], Type); 5] = [
+            (b"c", Type::String),
+            (b"p", Type::Boolean),
+            (b"p", Type::String),
+            (b"", Type::Boolean),
+            (b"c\n", Type::Boolean),
+        ];
+        for (name, ty) in wrong {
+            let refusal = Refusal { number: 32, start: 0, end: 0, line: 0, column: 0 };
+            assert_eq!(rehearsal.lay(WORKED, name, ty), Err(refusal));
+            assert_eq!(rehearsal, before);
+            assert_eq!(refusal.to_string(), "refused, 32: not the item due");
+        }
+        assert_eq!(rehearsal.lay(WORKED, b"c", Type::Boolean), Ok(due("p", Type::String)));
+    }
+
+    #[test]
+    fn taking_back_stops_at_the_beginning() {
+        let (mut rehearsal, _) = Rehearsal::open(WORKED, 0).unwrap();
+        assert_eq!(rehearsal.take_back(WORKED), Ok(due("c", Type::Boolean)));
+        assert_eq!(rehearsal.laid(), 0);
+        rehearsal.lay(WORKED, b"c", Type::Boolean).unwrap();
+        for _ in 0..3 {
+            assert_eq!(rehearsal.take_back(WORKED), Ok(due("c", Type::Boolean)));
+            assert_eq!(rehearsal.laid(), 0);
+        }
+    }
+
+    #[test]
+    fn no_such_path_and_a_refused_listing() {
+        let refusal = Rehearsal::open(WORKED, 2).unwrap_err();
+        assert_eq!(refusal, Refusal { number: 31, start: 0, end: 0, line: 0, column: 0 });
+        assert_eq!(refusal.to_string(), "refused, 31: no such path");
+        assert_eq!(number(Rehearsal::open(WORKED, u32::MAX)), Err(31));
+        assert_eq!(Rehearsal::open(LEFT_OVER, 7).map(|_| ()), check(LEFT_OVER));
+        // a rehearsal of one listing, lent another that is refused, or that has no such path
+        let (mut rehearsal, _) = Rehearsal::open(WORKED, 1).unwrap();
+        let before = rehearsal;
+        assert_eq!(rehearsal.lay(LEFT_OVER, b"c", Type::Boolean).map(|_| ()), check(LEFT_OVER));
+        assert_eq!(rehearsal.take_back(LEFT_OVER).map(|_| ()), check(LEFT_OVER));
+        assert_eq!(number(rehearsal.take_back(ACCEPTED)), Err(31));
+        assert_eq!(rehearsal, before);
     }
 }

@@ -1,6 +1,6 @@
 //! Times: medians of many batches, the sides taking turns.
 
-use super::sides::{Bench, Side, SIDES};
+use super::sides::{Bench, Side};
 use std::time::Duration;
 
 /// A batch takes about this long at least.
@@ -10,13 +10,13 @@ const BATCHES: usize = 301;
 const FEWEST: usize = 11;
 const LONGEST: Duration = Duration::from_secs(4);
 
-/// Nanoseconds for a run of each side, in the order of `SIDES`.
-pub fn times(bench: &mut Bench) -> Vec<f64> {
-    let runs: Vec<usize> = SIDES.iter().map(|side| runs_of(bench, *side)).collect();
-    let mut found: Vec<Vec<f64>> = vec![vec![]; SIDES.len()];
+/// Nanoseconds for a run of each side, in their order.
+pub fn times(bench: &mut Bench, sides: &[Side]) -> Vec<f64> {
+    let runs: Vec<usize> = sides.iter().map(|side| runs_of(bench, *side)).collect();
+    let mut found: Vec<Vec<f64>> = vec![vec![]; sides.len()];
     let mut spent = Duration::ZERO;
     while found[0].len() < BATCHES && (found[0].len() < FEWEST || spent < LONGEST) {
-        for (i, side) in SIDES.iter().enumerate() {
+        for (i, side) in sides.iter().enumerate() {
             // One run that is not timed: the side before has left other things in the caches.
             bench.batch(*side, 1);
             let time = bench.batch(*side, runs[i]);

@@ -1,4 +1,5 @@
-//! The benchmark: Check and Report beside the original, on the same listings, in one process.
+//! The benchmark: Check and Report beside the original, and the calls of a rehearsal beside Check, on the same listings, in
+//! one process.
 
 mod clock;
 mod counts;
@@ -8,7 +9,7 @@ mod sides;
 use crate::oracle::STACK;
 use counts::Counted;
 use inputs::Input;
-use sides::{Bench, SIDES};
+use sides::{Bench, Side, REHEARSAL, SIDES};
 use std::io::Write;
 
 /// `bench`; or one side on one listing, for tools that watch the process: `bench --one NAME --side SIDE [--runs NUMBER]`; or a
@@ -42,18 +43,28 @@ fn show(name: &str) -> Result<(), String> {
 /// So many runs of one side, and then one that callgrind counts.
 fn counted(name: &str, side: &str, runs: usize) -> Result<(), String> {
     let input = input(name)?;
-    let side = *SIDES.iter().find(|one| one.name() == side).ok_or("no such side")?;
+    let side = Side::named(side).ok_or("no such side")?;
     let mut bench = Bench::new(&input.listing);
+    if REHEARSAL[1..].contains(&side) && !bench.accepted() {
+        return Err("a refused listing is not rehearsed".to_string());
+    }
     bench.batch(side, runs);
     bench.counted(side);
     Ok(())
 }
 
-/// What was found for one listing, in the order of `SIDES`.
+/// A call of a rehearsal may take so many times what Check takes.
+const REHEARSAL_GOAL: f64 = 1.2;
+
+/// What was found for one listing.
 struct Row {
     input: Input,
+    /// In the order of `SIDES`.
     times: Vec<f64>,
     counts: Vec<Counted>,
+    /// In the order of `REHEARSAL`; nothing if the listing is refused.
+    rehearsal_times: Vec<f64>,
+    rehearsal_counts: Vec<Counted>,
 }
 
 fn whole() -> Result<(), String> {
@@ -64,15 +75,19 @@ fn whole() -> Result<(), String> {
         if !bench.agree() {
             return Err(format!("{}: the two sides do not agree", input.name));
         }
-        let times = clock::times(&mut bench);
+        let times = clock::times(&mut bench, &SIDES);
+        let rehearsal_times = if bench.accepted() { clock::times(&mut bench, &REHEARSAL) } else { vec![] };
         drop(bench);
         eprintln!("{} timed", input.name);
-        rows.push(Row { input, times, counts: vec![] });
+        rows.push(Row { input, times, counts: vec![], rehearsal_times, rehearsal_counts: vec![] });
     }
     if counts::available() {
         for row in &mut rows {
             for side in SIDES {
                 row.counts.push(counts::count(row.input.name, side)?);
+            }
+            for side in REHEARSAL.into_iter().take(row.rehearsal_times.len()) {
+                row.rehearsal_counts.push(counts::count(row.input.name, side)?);
             }
             eprintln!("{} counted", row.input.name);
         }
@@ -85,9 +100,13 @@ fn whole() -> Result<(), String> {
 fn tables(rows: &[Row]) -> String {
     let mut text = String::from("### Times, in nanoseconds\n\n");
     text += &table(rows, |row| row.times.clone());
+    text += "\n### Times of a rehearsal, in nanoseconds\n\n";
+    text += &rehearsals(rows, |row| row.rehearsal_times.clone());
     if rows.iter().all(|row| !row.counts.is_empty()) {
         text += "\n### Instructions\n\n";
         text += &table(rows, |row| row.counts.iter().map(|counted| counted.total as f64).collect());
+        text += "\n### Instructions of a rehearsal\n\n";
+        text += &rehearsals(rows, |row| row.rehearsal_counts.iter().map(|counted| counted.total as f64).collect());
         text += "\n### Where Check's instructions go\n\n";
         rows.iter().for_each(|row| text += &functions(row));
     }
@@ -117,6 +136,29 @@ fn table(rows: &[Row], values: impl Fn(&Row) -> Vec<f64>) -> String {
             check / whole,
             report / whole,
             check / alone,
+        );
+    }
+    text
+}
+
+/// A row for each accepted listing: the calls of a rehearsal, and each as so many times Check.
+fn rehearsals(rows: &[Row], values: impl Fn(&Row) -> Vec<f64>) -> String {
+    let mut text = String::from(
+        "| listing | bytes | lines | Check | open | lay | take back | open / Check | lay / Check | take back / Check | goal |\n\
+         |---|--:|--:|--:|--:|--:|--:|--:|--:|--:|---|\n",
+    );
+    for row in rows {
+        let all = values(row);
+        let [check, open, lay, back] = all[..] else { continue };
+        let lines = row.input.listing.iter().filter(|&&byte| byte == b'\n').count();
+        let met = if [open, lay, back].iter().all(|call| *call <= REHEARSAL_GOAL * check) { "met" } else { "missed" };
+        text += &format!(
+            "| {} | {} | {lines} | {check:.0} | {open:.0} | {lay:.0} | {back:.0} | {:.4} | {:.4} | {:.4} | {REHEARSAL_GOAL}: {met} |\n",
+            row.input.name,
+            row.input.listing.len(),
+            open / check,
+            lay / check,
+            back / check,
         );
     }
     text

@@ -1,14 +1,14 @@
 //! The comparison: Check, Report and Name beside the original and beside models of demand 3 and of the report.
 
-mod damage;
+pub mod damage;
 mod every;
-mod inputs;
-mod judge;
+pub mod inputs;
+pub mod judge;
 mod order;
 mod question;
-mod shapes;
+pub mod shapes;
 mod shrink;
-mod stack;
+pub mod stack;
 
 use crate::oracle::STACK;
 use inputs::{Input, Inputs};

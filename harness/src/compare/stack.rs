@@ -18,6 +18,14 @@ struct Item<'a> {
     name: &'a str,
 }
 
+/// An item of an accepted listing: its name, its type, and where the name stands: how many bytes precede it, and its length.
+#[derive(Clone, Debug, PartialEq, Eq)]
+pub struct Shown {
+    pub name: Vec<u8>,
+    pub kind: u32,
+    pub place: [u32; 2],
+}
+
 /// What the text says of declarations and paths.
 pub struct Paths<'a> {
     /// First declared first.
@@ -142,9 +150,18 @@ impl Paths<'_> {
 
     /// Where the names of each path's items stand in the listing, from the top: how many bytes precede one, and its length.
     pub fn places(&self, listing: &[u8]) -> Vec<Vec<[u32; 2]>> {
+        self.shown(listing).iter().map(|items| items.iter().map(|item| item.place).collect()).collect()
+    }
+
+    /// The items of each path, from the top, as its report lines have them.
+    pub fn shown(&self, listing: &[u8]) -> Vec<Vec<Shown>> {
         let before = |name: &str| name.as_ptr() as usize - listing.as_ptr() as usize;
-        let place = |item: &Item| [before(item.name), item.name.len()].map(|n| n as u32);
-        self.declarations.iter().map(|items| items.iter().rev().map(place).collect()).collect()
+        let shown = |item: &Item| Shown {
+            name: item.name.as_bytes().to_vec(),
+            kind: item.kind.parse().unwrap(),
+            place: [before(item.name), item.name.len()].map(|n| n as u32),
+        };
+        self.declarations.iter().map(|items| items.iter().rev().map(shown).collect()).collect()
     }
 
     /// The report, if the listing is accepted: every path empties its stack, so the item at a position is the one that is

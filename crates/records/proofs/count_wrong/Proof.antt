@@ -2,24 +2,15 @@ use Prim.Native.Nat.{ℕ, _+_, _-_, _≤_, _<_}
 use native.Mathlib.Nat.{zero-add}
 use native.Mathlib.Omega.{arith}
 use native.Mathlib.Numerals.{add-one}
-use mathlib.Core.Bool.{Bool, true, false, cond}
 use mathlib.Core.List.{List}
 use mathlib.Core.Path.{_≡_}
-use lib.Dec.{eqb}
 use lib.ListN.{length, drop, getD, drop-of-length-le}
 use lib.Seq.{drop-cons}
 use borrow.Author.Needs.{needs}
 use Rattle.records.specs.Wrong.{wrongWord, wrongIn}
+use Rattle.records.proofs.AtMost.{at-most-one}
 use Rattle.records.proofs.count_wrong.Statement.{statement}
 use Rattle.records.proofs.count_wrong.Tie as tie
-
-at-most-one : (d x : ℕ) → wrongWord d x ≤ 1
-unfolding wrongWord
-at-most-one d x = go (eqb x d)
-  where
-    go : (b : Bool) → cond b 0 1 ≤ 1
-    go true = omega arith
-    go false = omega arith
 
 -- the words from i on: the one at i, and the rest
 wrong-more : (d : ℕ) (t : List ℕ) (i : ℕ) → i < length t → wrongIn d (drop i t) ≡ wrongWord d (getD t i 0) + wrongIn d (drop (i + 1) t)

@@ -1,11 +1,12 @@
 use borrow.Author.Needs.{needs}
-use Rattle.ast.specs.Numbers.{kindFrom}
-use Rattle.ast.proofs.Laws.{kind-past}
+use Rattle.ast.specs.Tree.{number}
+use Rattle.ast.specs.Numbers.{kindAmong, kindFrom, foundKind}
+use Rattle.ast.proofs.Laws.{kind-none}
 use Rattle.ast.proofs.numbers.error_from.Statement.{statement}
 use Rattle.ast.proofs.numbers.error_from.Tie as tie
 
 pub error-from-spec : {M : Type 1} → statement M
-unfolding kindFrom
+unfolding number kindAmong kindFrom foundKind
 error-from-spec =
     tie.close
     (tie.spec
@@ -29,6 +30,4 @@ error-from-spec =
     (λ c. rw (c .match .keys18, kindFrom))
     (λ c. rw (c .match .keys19, kindFrom))
     (λ c. rw (c .match .keys20, kindFrom))
-    (λ c. rw (c .match .keys21, kindFrom))
-    (λ c. rw (c .match .keys22, kindFrom))
-    (λ c. kind-past (c .before .args .n) (c .match .rest)))
+    (λ c. kind-none (c .before .args .n) (c .match .rest)))
