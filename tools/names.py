@@ -14,7 +14,7 @@ CRATES = os.path.join(os.path.dirname(os.path.abspath(__file__)), "..", "crates"
 # the crate of a table, the tables below it that it opens whole, the crates whose specs it opens
 TABLES = [
     ("reader", [], ["ast", "text", "listing", "reader"]),
-    ("examiner", ["reader"], ["rules", "declarations", "output", "reporting", "examiner"]),
+    ("examiner", ["reader"], ["rules", "declarations", "output", "reporting", "verdicts", "examiner"]),
     ("rehearsal", ["examiner"], ["turns", "rehearsal"]),
 ]
 

@@ -9,16 +9,16 @@ use lib.ListN.{length, getD, take}
 use Rattle.rows.specs.Work.{workWords}
 use Rattle.tables.proofs.State.{kind-some}
 use Rattle.text.specs.declared.Place.{Place}
-use Rattle.examiner.specs.declared.Verdict.{Verdict}
-use Rattle.examiner.specs.declared.Verdict.the-variants.{Accepted, Refused}
+use Rattle.verdicts.specs.declared.Verdict.{Verdict}
+use Rattle.verdicts.specs.declared.Verdict.the-variants.{Accepted, Refused}
 use Rattle.examiner.specs.Check.{check}
 use Rattle.examiner.specs.InOrder.{InOrder}
-use Rattle.examiner.specs.declared.Reported.{Reported}
+use Rattle.verdicts.specs.declared.Reported.{Reported}
 use Rattle.examiner.specs.Report.{report, opening}
 use Rattle.examiner.specs.Lent.{outputAfter}
 use Rattle.examiner.specs.declared.name.Named.{Named}
 use Rattle.examiner.specs.Name.{name, named, placeOr}
-use Rattle.bithoven_examiner.specs.Numbers.{numbersOf, placeNumbers}
+use Rattle.answers.specs.Numbers.{numbersOf, placeNumbers}
 
 -- the number of an answer is 0 exactly where it accepts
 zero-accepts : (c : Verdict) → (getD (numbersOf c) 0 0 ≡ 0) ↔ (c ≡ Accepted)

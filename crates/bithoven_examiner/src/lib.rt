@@ -8,55 +8,14 @@ ghost use Rattle.examiner.specs.InOrder.{InOrder};
 ghost use Rattle.examiner.specs.Report.{report as reportOf, opening};
 ghost use Rattle.examiner.specs.Lent.{outputAfter};
 ghost use Rattle.examiner.specs.Name.{name as nameOf};
-ghost use Rattle.examiner.specs.declared.Verdict.the-variants.{Refused};
-ghost use Rattle.bithoven_examiner.specs.Numbers.{numbersOf, placeNumbers};
-use ast::CompileError;
-use ast::numbers::error_number;
-use examiner::Verdict;
+ghost use Rattle.answers.specs.Numbers.{numbersOf, placeNumbers};
+use answers::answer_number;
+use answers::put_answer;
 use examiner::check;
 use examiner::name::name_place;
 use examiner::report::report;
 
 mod rehearse; // rehearse.rt: rehearsing a witness
-
-// A refusal in numbers.
-fn put_fault(answer: &mut [u32; 5], x: CompileError)
-    ensures { λ _. ⌜ now (answer .exit) ≡ numbersOf (Refused x) ⌝ }
-{
-    let loc = x.loc;
-    let kind = x.kind;
-    *answer = [error_number(kind), loc.start, loc.end, loc.line, loc.column];
-}
-
-// An answer in numbers.
-fn put_answer(answer: &mut [u32; 5], c: Verdict)
-    ensures { λ _. ⌜ now (answer .exit) ≡ numbersOf c ⌝ }
-{
-    match c {
-        Verdict::Accepted => {
-            *answer = [0, 0, 0, 0, 0];
-        }
-        Verdict::Refused(x) => put_fault(answer, x),
-    }
-}
-
-// The number of a refusal.
-fn fault_number(x: CompileError) -> u32
-    ensures { λ r. ⌜ r ≡ getD (numbersOf (Refused x)) 0 0 ⌝ }
-{
-    let kind = x.kind;
-    error_number(kind)
-}
-
-// The number of an answer.
-fn answer_number(c: Verdict) -> u32
-    ensures { λ r. ⌜ r ≡ getD (numbersOf c) 0 0 ⌝ }
-{
-    match c {
-        Verdict::Accepted => 0,
-        Verdict::Refused(x) => fault_number(x),
-    }
-}
 
 // Check: 0 if the listing is accepted, else the number of the refusal; `answer` gets that number and the location.
 #[no_mangle]

@@ -1,46 +1,12 @@
 // Rehearsing a witness, for C and Rust. Work memory is the function's own.
-ghost use mathlib.Core.Path.{_≡_};
-ghost use mathlib.Core.List.{List};
-ghost use Prim.Native.Nat.{ℕ};
 ghost use Rattle.rows.specs.Work.{workWords};
-ghost use Rattle.rehearsal.specs.Rehearse.{opened, laid, takenBack, DueInside};
+ghost use Rattle.rehearsal.specs.Rehearse.{opened, laid, takenBack};
 ghost use Rattle.rehearsal.specs.Acts.{turned};
-ghost use Rattle.bithoven_examiner.specs.Rehearsals.{answerOf, rehearsalIn, rehearsalNumbers, rehearsalAfter, dueAfter, Leaves};
-use crate::put_fault;
-use ast::numbers::type_number;
+ghost use Rattle.answers.specs.Rehearsals.{rehearsalIn, Leaves};
+use answers::put_rehearsed;
 use rehearsal::rehearse;
 use turns::Rehearsal;
-use turns::Rehearsed;
 use turns::Turn;
-
-// A rehearsal in numbers.
-fn put_rehearsal(rehearsal: &mut [u32; 2], r: Rehearsal)
-    ensures { λ _. ⌜ now (rehearsal .exit) ≡ rehearsalNumbers r ⌝ }
-{
-    *rehearsal = [r.path, r.due];
-}
-
-// An answer in numbers; a refusal leaves the rehearsal and the item due.
-fn put_rehearsed(rehearsal: &mut [u32; 2], due: &mut [u32; 4], answer: &mut [u32; 5], x: Rehearsed)
-    requires { ⌜ ((s : List ℕ) × DueInside s x) ⌝ }
-    ensures { λ _. ⌜ now (rehearsal .exit) ≡ rehearsalAfter x (now (rehearsal .entry)) ⌝ }
-    ensures { λ _. ⌜ now (due .exit) ≡ dueAfter x (now (due .entry)) ⌝ }
-    ensures { λ _. ⌜ now (answer .exit) ≡ answerOf x ⌝ }
-{
-    match x {
-        Rehearsed::Due(p, t, r) => {
-            put_rehearsal(rehearsal, r);
-            *due = [1, p.at as u32, p.len as u32, type_number(t)];
-            *answer = [0, 0, 0, 0, 0];
-        }
-        Rehearsed::Ended(r) => {
-            put_rehearsal(rehearsal, r);
-            *due = [0, 0, 0, 0];
-            *answer = [0, 0, 0, 0, 0];
-        }
-        Rehearsed::Refused(e) => put_fault(answer, e),
-    }
-}
 
 // A turn on a rehearsal, in numbers. The three functions below come here, so that the optimizer sees one use of work memory.
 fn answer_turn(

@@ -1,7 +1,6 @@
 // Runs Report and Name on each sample of contracts/ and prints the name of its file, the report, and the names of its items: the
 // lines `N,path,position,name`, from the top of each path on until Name gives none. In data/listings a record with the file's name
 // stands before each listing; tools/contracts.py writes data/listings and what is to be printed.
-use examiner::Verdict;
 use examiner::name::name;
 use libc::STDOUT_FILENO;
 use records::Head;
@@ -10,6 +9,7 @@ use records::read_bytes;
 use records::read_end;
 use records::read_head;
 use records::wide;
+use verdicts::Verdict;
 
 // A listing has at most 32 paths, and a path 32 items; one more of each is asked for.
 const ASKED: u32 = 33;

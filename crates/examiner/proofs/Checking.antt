@@ -8,10 +8,8 @@ use mathlib.Core.Option.{Option, some, none}
 use mathlib.Core.Path.{_≡_, refl, sym, ap, _∙_, subst}
 use borrow.Author.Tests.{ltb-false, le-ltb}
 use lib.Dec.{ltb}
-use lib.ListN.{length, drop, getD}
-use Rattle.ast.specs.declared.ErrorKind.{ErrorKind}
+use lib.ListN.{length, drop}
 use Rattle.ast.specs.declared.ErrorKind.the-variants.{WorkTooShort}
-use Rattle.ast.specs.declared.KindFound.{KindFound}
 use Rattle.ast.specs.declared.CompileError.{CompileError}
 use Rattle.ast.specs.Tree.{Contract, fault, unplaced}
 use Rattle.listing.specs.declared.Line.{Line}
@@ -32,12 +30,12 @@ use Rattle.reader.specs.Spells.{SpellsContract, nth, linesOf, lineIn as lineOf}
 use Rattle.reading.specs.Held.{rowsOf, rowsLeft, listingRead, workRead, Spelled}
 use Rattle.reader.proofs.Complete.{reads-readable}
 use Rattle.rules.specs.Table.{Table}
-use Rattle.ast.specs.Numbers.{kindFrom, foundKind}
 use Rattle.declarations.specs.Items.{ContractAt}
-use Rattle.tables.specs.State.{locationIn, faultIn}
+use Rattle.tables.specs.State.{faultIn}
 use Rattle.analyze.specs.Analysis.{analyzed as numbered}
-use Rattle.examiner.specs.declared.Verdict.{Verdict}
-use Rattle.examiner.specs.Check.{analyzed, examine, verdict, check}
+use Rattle.verdicts.specs.declared.Verdict.{Verdict}
+use Rattle.verdicts.specs.Verdicts.{verdict, verdictIn}
+use Rattle.examiner.specs.Check.{analyzed, examine, check}
 use Rattle.examiner.specs.Lent.{workAfter}
 use Rattle.examiner.specs.InOrder.{InOrder}
 use Rattle.examiner.proofs.Demand3.{examined, demand3}
@@ -166,15 +164,11 @@ module _ (s w t : List ℕ) {y : ListingRead} (answered : y ≡ listingRead s (l
         let a : r ≡ check s (length w) = f (h .contract) (h .spells) ∙ sym (check-read s w t n h enough) in
         (a, (c ∙ work-read s w t n h enough held, demanded s (length w) r a))
 
--- the answer that the numbers of an analysis say, by the kind that is found in them
-abbrev said : List ℕ → KindFound → Verdict
-said out KindFound.Nothing = Verdict.Accepted
-said out (KindFound.Kind k) = Verdict.Refused (fault k (locationIn out))
-
-pub says : (ts : List Table) (out : List ℕ) (k : KindFound) → k ≡ foundKind (kindFrom (getD out 0 0)) → said out k ≡ verdict (numbered ts out)
-unfolding foundKind faultIn numbered verdict
-says ts out k e = ap (said out) e ∙ go (kindFrom (getD out 0 0)) refl
+-- the answer that the numbers of an analysis say
+pub numbers-say : (ts : List Table) (out : List ℕ) → verdictIn out ≡ verdict (numbered ts out)
+unfolding verdictIn numbered verdict
+numbers-say ts out = go (faultIn out) refl
   where
-    go : (o : Option ErrorKind) → kindFrom (getD out 0 0) ≡ o → said out (foundKind o) ≡ verdict (numbered ts out)
-    go none h = rw (h, numbered, faultIn) refl
-    go (some k) h = rw (h, numbered, faultIn) refl
+    go : (o : Option CompileError) → faultIn out ≡ o → verdictIn out ≡ verdict (numbered ts out)
+    go none h = rw (h, verdictIn, numbered) refl
+    go (some x) h = rw (h, verdictIn, numbered) refl

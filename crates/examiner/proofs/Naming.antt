@@ -35,9 +35,10 @@ use Rattle.declarations.specs.Items.{ContractAt}
 use Rattle.declarations.specs.Noted.{rowPast, wholeItem, Declares, itemAt as itemFrom, found}
 use Rattle.declarations.proofs.Standing.{declarations-end}
 use Rattle.declarations.proofs.Looking.{item-at-map, found-is, found-not, item-inside}
-use Rattle.examiner.specs.declared.Verdict.{Verdict}
+use Rattle.verdicts.specs.declared.Verdict.{Verdict}
 use Rattle.examiner.specs.declared.name.Named.{Named}
-use Rattle.examiner.specs.Check.{verdict, check}
+use Rattle.verdicts.specs.Verdicts.{verdict}
+use Rattle.examiner.specs.Check.{check}
 use Rattle.examiner.specs.InOrder.{Accepted}
 use Rattle.examiner.specs.Lent.{workAfter}
 use Rattle.examiner.specs.Name.{itemsOf, items, itemAt, ifAccepted, nameOf, placeOr, name, named, nameBytes}

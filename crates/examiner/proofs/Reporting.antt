@@ -7,7 +7,7 @@ use mathlib.Core.Path.{_≡_, refl, sym, ap, _∙_}
 use borrow.Author.Tests.{lt-ltb, le-ltb, ltb-false}
 use lib.Dec.{ltb}
 use lib.ListN.{length, take, drop, length-append, length-drop}
-use Rattle.ast.specs.declared.ErrorKind.the-variants.{WorkTooShort, OutputTooShort}
+use Rattle.ast.specs.declared.ErrorKind.the-variants.{WorkTooShort}
 use Rattle.ast.specs.declared.CompileError.{CompileError}
 use Rattle.ast.specs.Tree.{Contract, fault, unplaced}
 use Rattle.rules.specs.Result.{Result, ok, err}
@@ -23,55 +23,19 @@ use Rattle.reading.specs.Held.{listingRead, workRead, Spelled}
 use Rattle.paths.specs.declared.NamePlace.{NamePlace}
 use Rattle.declarations.specs.declared.Declared.{Declared}
 use Rattle.tables.specs.State.{tablesOf, Ready}
-use Rattle.analyze.specs.Analysis.{Analyzed, analyzed as numbered}
+use Rattle.analyze.specs.Analysis.{Analyzed}
 use Rattle.analyze.proofs.Determined.{zero-out, tables-are}
-use Rattle.output.specs.Put.{most, puts, Room, Wrote}
-use Rattle.output.proofs.Laws.{puts-off, puts-whole}
 use Rattle.reporting.specs.Text.{fields, reportLine, acceptance, refusal, textOf}
-use Rattle.examiner.specs.declared.Reported.{Reported}
-use Rattle.examiner.specs.declared.Verdict.{Verdict}
-use Rattle.examiner.specs.Check.{examine, verdict, check}
-use Rattle.examiner.specs.Report.{reportText, reported, report, opening}
-use Rattle.examiner.specs.Lent.{workAfter, written, outputAfter}
+use Rattle.verdicts.specs.declared.Reported.{Reported}
+use Rattle.verdicts.specs.declared.Verdict.{Verdict}
+use Rattle.verdicts.specs.Verdicts.{verdict, verdictIn}
+use Rattle.examiner.specs.Check.{examine, check}
+use Rattle.verdicts.specs.Reports.{reported}
+use Rattle.examiner.specs.Report.{reportText, report, opening}
+use Rattle.verdicts.specs.Reports.{written}
+use Rattle.examiner.specs.Lent.{workAfter, outputAfter}
 use Rattle.examiner.proofs.Demand3.{refused≢accepted, examined}
-use Rattle.examiner.proofs.Checking.{check-refused, work-refused, work-read}
-
-pub refusal-text : (x : CompileError) → textOf (err x) ≡ refusal x
-unfolding textOf
-refusal-text x = refl
-
-pub acceptance-text : (ts : List Table) → textOf (ok ts) ≡ acceptance ts
-unfolding textOf
-acceptance-text ts = refl
-
--- 6
-abbrev tooShort : Reported
-tooShort = record { answer = Verdict.Refused (fault OutputTooShort unplaced); length = 0 }
-
--- a text that is measured, and then written if output has room for it
-module _ (w : Result (List Table)) (text : List ℕ) (is : textOf w ≡ text) {out out₁ : List ℕ} {bound n : ℕ} (measured : Wrote false out 0 text bound out₁ n) where
-  same : out₁ ≡ out
-  same = measured .holds ∙ puts-off out 0 text
-
-  long : n ≡ length (textOf w)
-  long = let e = measured .past in omega (arith, ap length is)
-
-  pub no-room : (r : Reported) → length out₁ < n → r ≡ tooShort → (r ≡ reported w (length out)) × (out₁ ≡ written (textOf w) out)
-  unfolding reported written
-  no-room r h e =
-      let l : length out < length (textOf w) = omega (arith, ap length same, long) in
-      (rw (lt-ltb (length out) (length (textOf w)) l, reported) e, rw (lt-ltb (length out) (length (textOf w)) l, written) same)
-
-  pub may-write : n ≤ length out₁ → bound ≤ most → Room true out₁ 0 text bound
-  may-write h b = let e = measured .past in record { fits = λ t. omega arith; counts = omega arith }
-
-  pub has-room : (a : Verdict) → a ≡ verdict w → n ≤ length out₁ → {out₂ : List ℕ} {m : ℕ} → Wrote true out₁ 0 text bound out₂ m → (record { answer = a; length = n } ≡ reported w (length out)) × (out₂ ≡ written (textOf w) out)
-  unfolding reported written
-  has-room a e h {out₂} wrote =
-      let l : length (textOf w) ≤ length out = omega (arith, ap length same, long) in
-      let whole : out₂ ≡ textOf w ++ drop (length (textOf w)) out =
-      wrote .holds ∙ ap (λ (o : List ℕ). puts true o 0 text) same ∙ ap (puts true out 0) (sym is) ∙ puts-whole out (textOf w) l in
-      (rw (le-ltb (length out) (length (textOf w)) l, reported) (ap (λ a. record { answer = a; length = n }) e ∙ ap (λ n. record { answer = verdict w; length = n }) long), rw (le-ltb (length out) (length (textOf w)) l, written) whole)
+use Rattle.examiner.proofs.Checking.{check-refused, work-refused, work-read, numbers-say}
 
 -- what Report promises of its answer r, of work at exit t and of output at exit o
 abbrev pub Promised : List ℕ → List ℕ → List ℕ → Reported → List ℕ → List ℕ → Type 0
@@ -137,13 +101,13 @@ module _ (s w t out : List ℕ) {y : ListingRead} (enough : workWords ≤ length
       reports s w out enough (analyze (h .contract)) (examined s (length w) (h .contract) enough (h .source, h .reads)) r u o (e ∙ work-read s w t n h enough held) (f (h .contract) (h .spells)) (g (h .contract) (h .spells))
 
 -- what an analysis found, by the answer that its numbers say
-module _ {s t : List ℕ} {d : Declared} {rows : List (List NamePlace)} {taken out : List ℕ} {w : Result (List Table)} (a : Analyzed s t d w rows taken out) {c : Verdict} (says : (ts : List Table) → c ≡ verdict (numbered ts out)) where
+module _ {s t : List ℕ} {d : Declared} {rows : List (List NamePlace)} {taken out : List ℕ} {w : Result (List Table)} (a : Analyzed s t d w rows taken out) {c : Verdict} (says : c ≡ verdictIn out) where
   pub found-fault : (x : CompileError) → c ≡ Verdict.Refused x → err x ≡ w
-  found-fault x e = sym (verdict-refused w x (sym e ∙ says (tablesOf s t d rows taken) ∙ ap verdict (a .result)))
+  found-fault x e = sym (verdict-refused w x (sym e ∙ says ∙ numbers-say (tablesOf s t d rows taken) out ∙ ap verdict (a .result)))
 
   pub found-tables : c ≡ Verdict.Accepted → Ready s t d rows taken × (ok (tablesOf s t d rows taken) ≡ w)
   unfolding verdict
-  found-tables e = go w a (sym e ∙ says (tablesOf s t d rows taken) ∙ ap verdict (a .result))
+  found-tables e = go w a (sym e ∙ says ∙ numbers-say (tablesOf s t d rows taken) out ∙ ap verdict (a .result))
     where
       go : (w : Result (List Table)) → Analyzed s t d w rows taken out → Verdict.Accepted ≡ verdict w → Ready s t d rows taken × (ok (tablesOf s t d rows taken) ≡ w)
       go (ok ts) a h = (a .ready (zero-out a), ap ok (tables-are a))

@@ -12,10 +12,9 @@ ghost use Rattle.rules.specs.Analyze.{analyze as analyzeOf};
 ghost use Rattle.names.specs.declared.Item.{Item};
 ghost use Rattle.declarations.specs.Items.{ContractAt};
 ghost use Rattle.declarations.specs.Noted.{declaredIn, Declares, itemAt};
-ghost use Rattle.examiner.specs.Check.{verdict};
+ghost use Rattle.verdicts.specs.Verdicts.{verdict};
 ghost use Rattle.examiner.specs.Lent.{workAfter};
 ghost use Rattle.examiner.specs.Name.{ifAccepted, nameOf, placeOr, named, nameBytes};
-use crate::Verdict;
 use crate::analyze_rows;
 use declarations::Declared;
 use declarations::ItemFound;
@@ -24,6 +23,7 @@ use declarations::item_in;
 use reading::ListingRead;
 use reading::read_listing;
 use text::Place;
+use verdicts::Verdict;
 
 // What is handed back of an item's name: Check's answer, and where the part of the listing that holds the name stands.
 pub struct Named {

@@ -2,89 +2,31 @@
 ghost use mathlib.Core.Path.{_≡_};
 ghost use Prim.Native.Nat.{_≤_};
 ghost use lib.ListN.{length, take};
-ghost use Rattle.ast.specs.Tree.{Contract, fault, unplaced};
-ghost use Rattle.rules.specs.Result.{ok, err};
+ghost use Rattle.ast.specs.Tree.{Contract};
 ghost use Rattle.rules.specs.Analyze.{analyze as analyzeOf};
 ghost use Rattle.rows.specs.Rows.{lineIn};
 ghost use Rattle.rows.specs.Work.{workWords, cleared};
-ghost use Rattle.reader.specs.Ceilings.{maxBytes};
 ghost use Rattle.reader.specs.Spells.{SpellsContract};
 ghost use Rattle.declarations.specs.Items.{ContractAt, DeclaredAs};
-ghost use Rattle.tables.specs.State.{tablesOf, Ready};
 ghost use Rattle.reporting.specs.Text.{textOf};
-ghost use Rattle.examiner.specs.declared.Verdict.{Verdict};
+ghost use Rattle.verdicts.specs.Reports.{reported, written};
 ghost use Rattle.examiner.specs.Check.{check as checkOf};
-ghost use Rattle.examiner.specs.Report.{reported, report as reportOf, opening};
-ghost use Rattle.examiner.specs.Lent.{workAfter, written, outputAfter};
-use crate::Reported;
-use crate::Verdict;
-use crate::verdict_in;
+ghost use Rattle.examiner.specs.Report.{report as reportOf, opening};
+ghost use Rattle.examiner.specs.Lent.{workAfter, outputAfter};
 use analyze::analyze;
-use ast::CompileError;
 use ast::ErrorKind;
-use ast::unplaced;
 use declarations::Declared;
 use declarations::declarations;
-use paths::NamePlace;
 use reading::ListingRead;
 use reading::read_listing;
-use reporting::put_acceptance;
-use reporting::put_refusal;
+use verdicts::Reported;
+use verdicts::Verdict;
+use verdicts::report_acceptance;
+use verdicts::report_refusal;
+use verdicts::verdict_in;
+use verdicts::without_text;
 
 const WORK_WORDS: usize = 16384;
-
-// A refusal that has no text: 5 or 6.
-fn without_text(kind: ErrorKind) -> Reported
-    ensures { λ r. ⌜ r ≡ record { answer = Verdict.Refused (fault kind unplaced); length = 0 } ⌝ }
-{
-    Reported {
-        answer: Verdict::Refused(CompileError {
-            loc: unplaced(),
-            kind,
-        }),
-        length: 0,
-    }
-}
-
-// A refusal and its text, if output has room for it.
-fn report_refusal(output: &mut [u8], x: CompileError) -> Reported
-    ensures { λ r. ⌜ r ≡ reported (err x) (length (now (output .entry))) ⌝ }
-    ensures { λ _. ⌜ now (output .exit) ≡ written (textOf (err x)) (now (output .entry)) ⌝ }
-{
-    let n = put_refusal(output, false, 0, x);
-    if output.len() < n {
-        return without_text(ErrorKind::OutputTooShort);
-    }
-    put_refusal(output, true, 0, x);
-    Reported {
-        answer: Verdict::Refused(x),
-        length: n,
-    }
-}
-
-// An acceptance and its text, if output has room for it.
-fn report_acceptance(
-    listing: &[u8],
-    table: &[u32],
-    d: Declared,
-    rows: [[NamePlace; 32]; 32],
-    taken: &[u32; 32],
-    output: &mut [u8],
-) -> Reported
-    requires { ⌜ Ready (now listing) (now table) d rows (now taken) × (length (now listing) ≤ maxBytes) ⌝ }
-    ensures { λ r. ⌜ r ≡ reported (ok (tablesOf (now (listing .entry)) (now (table .entry)) d rows (now (taken .entry)))) (length (now (output .entry))) ⌝ }
-    ensures { λ _. ⌜ now (output .exit) ≡ written (textOf (ok (tablesOf (now (listing .entry)) (now (table .entry)) d rows (now (taken .entry))))) (now (output .entry)) ⌝ }
-{
-    let size = put_acceptance(listing, table, d, rows, taken, output, false, 0);
-    if output.len() < size {
-        return without_text(ErrorKind::OutputTooShort);
-    }
-    put_acceptance(listing, table, d, rows, taken, output, true, 0);
-    Reported {
-        answer: Verdict::Accepted,
-        length: size,
-    }
-}
 
 // The contract in n rows, analyzed and reported.
 fn report_table(listing: &[u8], table: &[u32], n: usize, d: Declared, output: &mut [u8]) -> Reported

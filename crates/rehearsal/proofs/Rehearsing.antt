@@ -33,8 +33,9 @@ use Rattle.names.specs.Items.{Inside}
 use Rattle.declarations.specs.Noted.{Declares, itemAt as itemFrom}
 use Rattle.declarations.proofs.Declaring.{declared-as}
 use Rattle.declarations.proofs.Looking.{item-inside, item-declared}
-use Rattle.examiner.specs.declared.Verdict.{Verdict}
-use Rattle.examiner.specs.Check.{examine, verdict, check}
+use Rattle.verdicts.specs.declared.Verdict.{Verdict}
+use Rattle.verdicts.specs.Verdicts.{verdict}
+use Rattle.examiner.specs.Check.{examine, check}
 use Rattle.examiner.specs.Lent.{workAfter}
 use Rattle.examiner.specs.Name.{items, itemAt, placeOr, nameOf}
 use Rattle.examiner.proofs.Demand3.{examined}
@@ -46,8 +47,8 @@ use Rattle.turns.specs.declared.Rehearsed.{Rehearsed}
 use Rattle.turns.specs.declared.Rehearsed.the-variants.{Due, Refused}
 use Rattle.turns.specs.declared.Turn.{Turn}
 use Rattle.turns.specs.declared.Turn.the-variants.{Open, Lay, TakeBack}
-use Rattle.turns.specs.State.{beginning, onward, lowered}
-use Rattle.rehearsal.specs.Rehearse.{shownOf, shown, onTable, onTables, onPath, isDue, layOn, opened, laid, takenBack, DueInside}
+use Rattle.turns.specs.State.{beginning, onward, lowered, DueInside}
+use Rattle.rehearsal.specs.Rehearse.{shownOf, shown, onTable, onTables, onPath, isDue, layOn, opened, laid, takenBack}
 use Rattle.turns.specs.Turns.{paramOf, dueOf, dueIn, isItem, layIn, turnIn, pathVerdict, first, turnBy, tests}
 use Rattle.rehearsal.specs.Acts.{act, turned}
 use Rattle.rehearsal.proofs.Tables.{params-final}

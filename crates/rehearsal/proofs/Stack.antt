@@ -14,7 +14,8 @@ use Rattle.rules.proofs.Demand3.{accepted-in-order}
 use Rattle.reader.proofs.Complete.{readable-reads}
 use Rattle.rules.proofs.Theorem.{check as checkTree}
 use Rattle.rules.specs.Analyze.{analyze}
-use Rattle.examiner.specs.Check.{verdict, check}
+use Rattle.verdicts.specs.Verdicts.{verdict}
+use Rattle.examiner.specs.Check.{check}
 use Rattle.examiner.proofs.Demand3.{Holds, verdict-accepts, accepts, examined}
 use Rattle.reporting.specs.Text.{itemOf}
 use Rattle.rehearsal.specs.Items.{reportLines}

@@ -19,7 +19,8 @@ use Rattle.rules.proofs.Basics.{err≢ok, ok-ok}
 use Rattle.rules.proofs.Takers.{final, finalAll, finals}
 use Rattle.reader.specs.Reading.{readListing}
 use Rattle.rows.specs.Work.{workWords}
-use Rattle.examiner.specs.Check.{analyzed, examine, verdict, check}
+use Rattle.verdicts.specs.Verdicts.{verdict}
+use Rattle.examiner.specs.Check.{analyzed, examine, check}
 use Rattle.reporting.specs.Text.{itemOf}
 use Rattle.examiner.specs.Name.{itemAt, ifAccepted, nameOf, placeOr, name, nameBytes}
 use Rattle.examiner.specs.InOrder.{Accepted}

@@ -1,16 +1,12 @@
 -- Rehearsing a witness: open, lay and take back, on every listing, word count and rehearsal.
-use Prim.Native.Nat.{ℕ, suc, _+_, _≤_}
+use Prim.Native.Nat.{ℕ, suc}
 use mathlib.Core.Bool.{Bool, true, false}
 use mathlib.Core.List.{List}
 use mathlib.Core.Option.{Option, some, none}
-use mathlib.Core.Path.{_≡_}
-use lib.ListN.{length, getElem?}
-use Rattle.ast.specs.declared.Type.{«Type» as ItemType}
+use lib.ListN.{getElem?}
 use Rattle.ast.specs.Tree.{StackParam}
-use Rattle.text.specs.declared.Place.{Place}
 use Rattle.rules.specs.Result.{Result, ok, err}
 use Rattle.rules.specs.Table.{Table, params}
-use Rattle.reader.specs.Ceilings.{maxBytes}
 use Rattle.reporting.specs.Text.{WitnessItem, itemOf}
 use Rattle.examiner.specs.Check.{examine}
 use Rattle.examiner.specs.Name.{itemAt, nameOf, placeOr}
@@ -63,7 +59,3 @@ laid s words r x = onPath s words (r .path) (layOn s r x)
 -- take back (listing, work, rehearsal): the item laid last is due again; at the beginning nothing is altered
 unfoldable pub takenBack : List ℕ → ℕ → Rehearsal → Rehearsed
 takenBack s words r = onPath s words (r .path) (shown s (onward (r .path) (lowered (beginning s) (r .due))))
-
--- the place of an item due lies in the listing, and within a listing's ceiling
-abbrev pub DueInside : List ℕ → Rehearsed → Type 0
-DueInside s a = (p : Place) (t : ItemType) (r : Rehearsal) → a ≡ Due p t r → (p .at + p .len ≤ length s) × (p .at + p .len ≤ maxBytes)

@@ -1,7 +1,6 @@
 // Runs Check on each listing of data/listings and prints its answer: the listing's index, then the number and the place of
 // the refusal, or five zeros. `harness/run vectors` writes the listings and what is to be printed: the original's answers.
 use ast::CompileError;
-use examiner::Verdict;
 use records::FILLED;
 use records::Head;
 use records::print_number;
@@ -10,6 +9,7 @@ use records::read_end;
 use records::read_head;
 use records::wide;
 use records::wrong_words;
+use verdicts::Verdict;
 
 // What Check answered. All are 0 where it accepted.
 struct Answer {

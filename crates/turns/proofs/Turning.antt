@@ -18,7 +18,7 @@ use Rattle.names.specs.declared.Item.{Item}
 use Rattle.declarations.specs.declared.ItemFound.{ItemFound}
 use Rattle.declarations.specs.Noted.{itemAt, found}
 use Rattle.declarations.proofs.Looking.{found-is, found-not}
-use Rattle.examiner.specs.declared.Verdict.{Verdict}
+use Rattle.verdicts.specs.declared.Verdict.{Verdict}
 use Rattle.turns.specs.declared.Rehearsal.{Rehearsal}
 use Rattle.turns.specs.declared.Rehearsed.{Rehearsed}
 use Rattle.turns.specs.declared.Rehearsed.the-variants.{Due, Ended, Refused}

@@ -13,8 +13,8 @@ use Rattle.names.specs.declared.Item.{Item}
 use Rattle.declarations.specs.declared.Declared.{Declared}
 use Rattle.declarations.specs.Items.{ContractAt}
 use Rattle.declarations.specs.Noted.{declaredIn, itemAt}
-use Rattle.examiner.specs.declared.Verdict.{Verdict}
-use Rattle.examiner.specs.declared.Verdict.the-variants.{Accepted, Refused as NotAccepted}
+use Rattle.verdicts.specs.declared.Verdict.{Verdict}
+use Rattle.verdicts.specs.declared.Verdict.the-variants.{Accepted, Refused as NotAccepted}
 use Rattle.turns.specs.declared.Rehearsal.{Rehearsal}
 use Rattle.turns.specs.declared.Rehearsed.{Rehearsed}
 use Rattle.turns.specs.declared.Rehearsed.the-variants.{Due, Ended, Refused}

@@ -17,9 +17,9 @@ use ast::unplaced;
 use declarations::Declared;
 use declarations::ItemFound;
 use declarations::item_in;
-use examiner::Verdict;
 use names::Item;
 use text::Place;
+use verdicts::Verdict;
 
 // The position where a rehearsal begins.
 const BEGINNING: u32 = 0;

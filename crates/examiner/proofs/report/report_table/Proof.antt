@@ -4,8 +4,8 @@ use lib.ListN.{length}
 use Rattle.rules.specs.Result.{Result}
 use Rattle.rules.specs.Table.{Table}
 use Rattle.reporting.specs.Text.{textOf}
-use Rattle.examiner.specs.Report.{reported}
-use Rattle.examiner.specs.Lent.{written}
+use Rattle.verdicts.specs.Reports.{reported}
+use Rattle.verdicts.specs.Reports.{written}
 use Rattle.examiner.proofs.Reporting.{found-fault, found-tables}
 use borrow.Author.Needs.{needs}
 use Rattle.examiner.proofs.report.report_table.Statement.{statement}
