@@ -1,4 +1,4 @@
-// How much stack each C export takes on each file named: a thread runs the call on a stack that was painted before, and the bytes
+// How much stack each C export takes on each file named, or on each record of a file after --records: a thread runs the call on a stack that was painted before, and the bytes
 // whose paint is gone are counted, the thread's own and the caller's frame among them. Run by harness/stack/run.
 #include "../../crates/bithoven_examiner/include/bithoven_examiner.h"
 #include <pthread.h>
@@ -55,18 +55,46 @@ static size_t taken(void *(*call)(void *)) {
     return STACK - left;
 }
 
+// A line with what each call took on the listing that was read.
+static void measure(const char *what, int index) {
+    memset(due, 0, sizeof due);
+    printf("%s", what);
+    if (index >= 0)
+        printf(" %d", index);
+    printf(":");
+    for (size_t k = 0; k < sizeof calls / sizeof *calls; k++)
+        printf(" %s %zu", calls[k].name, taken(calls[k].call));
+    printf(", answer %u\n", answer[0]);
+}
+
+static FILE *opened(const char *name) {
+    FILE *file = fopen(name, "rb");
+    if (!file)
+        fail(name);
+    return file;
+}
+
+// Each record of a file: its length in five digits, byte 10, its bytes, byte 10.
+static void records(const char *name) {
+    FILE *file = opened(name);
+    for (int index = 0; fscanf(file, "%5zu", &size) == 1 && fgetc(file) == 10 && size <= MOST; index++) {
+        if (fread(listing, 1, size, file) < size || fgetc(file) != 10)
+            fail(name);
+        measure(name, index);
+    }
+    fclose(file);
+}
+
 int main(int count, char **names) {
+    if (count == 3 && strcmp(names[1], "--records") == 0) {
+        records(names[2]);
+        return 0;
+    }
     for (int i = 1; i < count; i++) {
-        FILE *file = fopen(names[i], "rb");
-        if (!file)
-            fail(names[i]);
+        FILE *file = opened(names[i]);
         size = fread(listing, 1, MOST, file);
         fclose(file);
-        memset(due, 0, sizeof due);
-        printf("%s:", names[i]);
-        for (size_t k = 0; k < sizeof calls / sizeof *calls; k++)
-            printf(" %s %zu", calls[k].name, taken(calls[k].call));
-        printf(", answer %u\n", answer[0]);
+        measure(names[i], -1);
     }
     return 0;
 }
