@@ -5,7 +5,7 @@ use mathlib.Core.Path.{_≡_, ap, _∙_, subst}
 use lib.ListN.{getD}
 use Rattle.rows.specs.Work.{workWords}
 use Rattle.turns.specs.declared.Rehearsed.{Rehearsed}
-use Rattle.answers.specs.Rehearsals.{answerOf, Puts, Leaves}
+use Rattle.answers.specs.Rehearsals.{Puts, Leaves}
 
 -- what a call leaves, from what was put of its answer
 pub leaves : (f : ℕ → Rehearsed) (w₀ d₀ : List ℕ) {a : Rehearsed} {w d n : List ℕ} {words : ℕ} → words ≡ workWords → a ≡ f words → Puts a w₀ d₀ w d n → Leaves (f workWords) w₀ d₀ (getD n 0 0) w d n

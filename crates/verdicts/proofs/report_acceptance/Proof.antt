@@ -1,9 +1,9 @@
 use native.Mathlib.Omega.{arith}
 use mathlib.Core.Path.{refl}
-use Rattle.rules.specs.Result.{ok, err}
+use Rattle.rules.specs.Result.{ok}
 use Rattle.tables.specs.State.{tablesOf}
 use Rattle.output.proofs.Laws.{room-off}
-use Rattle.verdicts.proofs.Writing.{refusal-text, acceptance-text, no-room, may-write, has-room}
+use Rattle.verdicts.proofs.Writing.{acceptance-text, no-room, may-write, has-room}
 use Rattle.verdicts.specs.declared.Verdict.{Verdict}
 use Rattle.verdicts.specs.Verdicts.{verdict}
 use borrow.Author.Needs.{needs}
@@ -40,13 +40,4 @@ returns-2 c =
     has-room (ok ts) _ (acceptance-text ts) (c .before .before .before .before .before .before .before .put-acceptance .ensures) Verdict.Accepted refl (c .before .before .before .before .if1 .left) (c .before .before .put-acceptance2 .ensures)
 
 pub report-acceptance-spec : {M : Type 1} → statement M
-report-acceptance-spec =
-    tie.close
-    (tie.spec
-    put-acceptance-requires
-    (λ c κs. search needs)
-    (λ c. search needs)
-    returns
-    put-acceptance-requires-2
-    (λ c. search needs)
-    returns-2)
+report-acceptance-spec = tie.close (tie.spec put-acceptance-requires (λ c κs. search needs) (λ c. search needs) returns put-acceptance-requires-2 (λ c. search needs) returns-2)

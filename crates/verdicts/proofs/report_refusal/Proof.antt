@@ -1,8 +1,8 @@
 use native.Mathlib.Omega.{arith}
 use mathlib.Core.Path.{refl}
-use Rattle.rules.specs.Result.{ok, err}
+use Rattle.rules.specs.Result.{err}
 use Rattle.output.proofs.Laws.{room-off}
-use Rattle.verdicts.proofs.Writing.{refusal-text, acceptance-text, no-room, may-write, has-room}
+use Rattle.verdicts.proofs.Writing.{refusal-text, no-room, may-write, has-room}
 use Rattle.verdicts.specs.declared.Verdict.{Verdict}
 use Rattle.verdicts.specs.Verdicts.{verdict}
 use borrow.Author.Needs.{needs}
@@ -31,13 +31,4 @@ returns-2 c =
     has-room (err (a .x)) _ (refusal-text (a .x)) (c .before .before .before .before .before .before .before .put-refusal .ensures) (Verdict.Refused (a .x)) refl (c .before .before .before .before .if1 .left) (c .before .before .put-refusal2 .ensures)
 
 pub report-refusal-spec : {M : Type 1} → statement M
-report-refusal-spec =
-    tie.close
-    (tie.spec
-    put-refusal-requires
-    (λ c κs. search needs)
-    (λ c. search needs)
-    returns
-    put-refusal-requires-2
-    (λ c. search needs)
-    returns-2)
+report-refusal-spec = tie.close (tie.spec put-refusal-requires (λ c κs. search needs) (λ c. search needs) returns put-refusal-requires-2 (λ c. search needs) returns-2)

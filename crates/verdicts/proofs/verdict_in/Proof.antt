@@ -14,16 +14,4 @@ unfolding locationIn
 returns-2 c = says (c .before .before .before .before .before .before .before .before .before .args .out .now) (KindFound.Kind _) (sym (c .before .before .before .before .before .found .given .1) ∙ c .before .before .before .before .before .before .before .error-from .ensures)
 
 pub verdict-in-spec : {M : Type 1} → statement M
-verdict-in-spec =
-    tie.close
-    (tie.spec
-    (λ c. search needs)
-    (λ c κs. search needs)
-    (λ c. search needs)
-    (λ c. search needs)
-    (λ c. search needs)
-    (λ c. search needs)
-    (λ c. search needs)
-    (λ c. search needs)
-    returns
-    returns-2)
+verdict-in-spec = tie.close (tie.spec (λ c. search needs) (λ c κs. search needs) (λ c. search needs) (λ c. search needs) (λ c. search needs) (λ c. search needs) (λ c. search needs) (λ c. search needs) returns returns-2)

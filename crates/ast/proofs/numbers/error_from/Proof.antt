@@ -1,4 +1,3 @@
-use borrow.Author.Needs.{needs}
 use Rattle.ast.specs.Tree.{number}
 use Rattle.ast.specs.Numbers.{kindAmong, kindFrom, foundKind}
 use Rattle.ast.proofs.Laws.{kind-none}

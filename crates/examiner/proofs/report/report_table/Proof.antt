@@ -1,5 +1,5 @@
 use mathlib.Core.List.{List}
-use mathlib.Core.Path.{ap, sym, _∙_}
+use mathlib.Core.Path.{ap, _∙_}
 use lib.ListN.{length}
 use Rattle.rules.specs.Result.{Result}
 use Rattle.rules.specs.Table.{Table}
