@@ -12,7 +12,3 @@ pub leaves : (f : ℕ → Rehearsed) (w₀ d₀ : List ℕ) {a : Rehearsed} {w d
 leaves f w₀ d₀ {w = w} {d = d} {n = n} e g h =
     let q = subst (λ a. Puts a w₀ d₀ w d n) (g ∙ ap f e) h in
     (ap (λ n. getD n 0 0) (q .2), q)
-
--- the same of an answer in other words
-pub leaves-as : (w₀ d₀ : List ℕ) {a b : Rehearsed} {r : ℕ} {w d n : List ℕ} → a ≡ b → Leaves a w₀ d₀ r w d n → Leaves b w₀ d₀ r w d n
-leaves-as w₀ d₀ {r = r} {w = w} {d = d} {n = n} e h = subst (λ a. Leaves a w₀ d₀ r w d n) e h

@@ -35,7 +35,7 @@ reverse-map : {A B : Type 0} (f : A → B) (xs ys : List A) → reverseAux (map 
 reverse-map f [] ys = refl
 reverse-map f (x ∷ xs) ys = reverse-map f xs (x ∷ ys)
 
-element-map : {A B : Type 0} (f : A → B) (xs : List A) (k : ℕ) → getElem? (map f xs) k ≡ Option·map f (getElem? xs k)
+pub element-map : {A B : Type 0} (f : A → B) (xs : List A) (k : ℕ) → getElem? (map f xs) k ≡ Option·map f (getElem? xs k)
 element-map f [] k = refl
 element-map f (x ∷ xs) zero = refl
 element-map f (x ∷ xs) (suc k) = element-map f xs k

@@ -24,7 +24,7 @@ use Rattle.names.specs.declared.Found.{Found}
 use Rattle.names.specs.declared.Found.the-variants.{At, Missing}
 use Rattle.names.specs.Items.{ItemsAt, lineOf, Inside, NamedRow, itemOf, itemIn, itemsDown, foundFrom, foundIn}
 
-and-false : (t : Bool) → (t && false) ≡ false
+pub and-false : (t : Bool) → (t && false) ≡ false
 and-false true = refl
 and-false false = refl
 
@@ -44,7 +44,7 @@ same-step : (s : List ℕ) (i j n : ℕ) → i < length s → j < length s → s
 unfolding sameFrom same
 same-step s i j n h k = rw (drop-cons s i 0 h, drop-cons s j 0 k)
 
-and-true : (t : Bool) → (t && true) ≡ t
+pub and-true : (t : Bool) → (t && true) ≡ t
 and-true true = refl
 and-true false = refl
 

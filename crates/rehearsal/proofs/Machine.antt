@@ -1,9 +1,9 @@
 -- The plain machine by itself, and the counted state on one table beside it.
 use Prim.Native.Nat.{ℕ, zero, suc, _+_, _-_}
 use native.Mathlib.Omega.{arith}
-use mathlib.Core.Bool.{Bool, true, false, _&&_}
+use mathlib.Core.Bool.{Bool, true, false}
 use mathlib.Core.List.{List, [], _∷_, _++_, map, dropLast, append-assoc, append-nil}
-use mathlib.Core.Option.{Option, some, none}
+use mathlib.Core.Option.{Option, some, none, Option·map}
 use mathlib.Core.Path.{_≡_, refl, sym, _∙_, ap, ap₂, subst}
 use lib.Dec.{ltb}
 use lib.ListN.{length, drop, getElem?, length-append}
@@ -14,6 +14,8 @@ use Rattle.ast.specs.Numbers.{typeNumber}
 use Rattle.text.specs.Text.{part}
 use Rattle.rules.proofs.Basics.{true≢false′, and-true, same-true, same-refl}
 use Rattle.rows.specs.Work.{workWords}
+use Rattle.names.proofs.Laws.{and-true as and-all}
+use Rattle.declarations.proofs.Looking.{element-map}
 use Rattle.reporting.specs.Text.{WitnessItem, itemOf}
 use Rattle.examiner.specs.Name.{itemAt, nameOf, placeOr}
 use Rattle.turns.specs.declared.Rehearsal.{Rehearsal}
@@ -149,16 +151,6 @@ lay-all w e xs (y ∷ ys) =
 
 -- ---- positions in lists
 
-mapOption : {A B : Type 0} → (A → B) → Option A → Option B
-mapOption f none = none
-mapOption f (some a) = some (f a)
-
-map-at : {A B : Type 0} (f : A → B) (xs : List A) (n : ℕ) → getElem? (map f xs) n ≡ mapOption f (getElem? xs n)
-unfolding mapOption
-map-at f [] n = refl
-map-at f (x ∷ xs) zero = refl
-map-at f (x ∷ xs) (suc n) = map-at f xs n
-
 drop-at : {A : Type 0} (b : ℕ) (xs : List A) (n : ℕ) → getElem? (drop b xs) n ≡ getElem? xs (b + n)
 drop-at zero xs n = let e : n ≡ 0 + n = omega arith in ap (getElem? xs) e
 drop-at (suc b) [] n = refl
@@ -180,19 +172,15 @@ isAt : WitnessItem → Option WitnessItem → Bool
 isAt x none = false
 isAt x (some y) = sameItem x y
 
-and-one : (b : Bool) → (b && true) ≡ b
-and-one true = refl
-and-one false = refl
-
 lay-at : (xs lines : List WitnessItem) (x : WitnessItem) → begins xs lines ≡ true → begins (xs ++ (x ∷ [])) lines ≡ isAt x (getElem? lines (length xs))
 unfolding begins isAt
 lay-at [] [] x h = refl
-lay-at [] (y ∷ lines) x h = and-one (sameItem x y)
+lay-at [] (y ∷ lines) x h = and-all (sameItem x y)
 lay-at (z ∷ xs) [] x h = absurd (true≢false′ h refl)
 lay-at (z ∷ xs) (y ∷ lines) x h = let p = and-true (sameItem z y) (begins xs lines) h in rw (p .0) (lay-at xs lines x (p .1))
 
-due-at : (x : WitnessItem) (o : Option StackParam) → isDue x o ≡ isAt x (mapOption itemOf o)
-unfolding isDue isAt mapOption
+due-at : (x : WitnessItem) (o : Option StackParam) → isDue x o ≡ isAt x (Option·map itemOf o)
+unfolding isDue isAt
 due-at x none = refl
 due-at x (some e) = refl
 
@@ -230,10 +218,10 @@ pub record Alike (s : List ℕ) (path b : ℕ) (lines : List WitnessItem) (r : R
 
 module _ (s : List ℕ) (path : ℕ) (t : List StackParam) (b : ℕ) (named : Named s path t) where
   shown-next : (xs : List WitnessItem) → saidBy s (shown s (onward path (b + length xs)) t) ≡ next (drop b (map itemOf t)) xs
-  unfolding shown shownOf saidBy dueAt mapOption
-  shown-next xs = go (getElem? t (b + length xs)) refl ∙ sym (next-at (drop b (map itemOf t)) xs ∙ ap dueAt (drop-at b (map itemOf t) (length xs) ∙ map-at itemOf t (b + length xs)))
+  unfolding shown shownOf saidBy dueAt
+  shown-next xs = go (getElem? t (b + length xs)) refl ∙ sym (next-at (drop b (map itemOf t)) xs ∙ ap dueAt (drop-at b (map itemOf t) (length xs) ∙ element-map itemOf t (b + length xs)))
     where
-      go : (o : Option StackParam) → getElem? t (b + length xs) ≡ o → saidBy s (shownOf s (onward path (b + length xs)) o) ≡ dueAt (mapOption itemOf o)
+      go : (o : Option StackParam) → getElem? t (b + length xs) ≡ o → saidBy s (shownOf s (onward path (b + length xs)) o) ≡ dueAt (Option·map itemOf o)
       go none e = refl
       go (some x) e = ap (λ n. due (record { name = n; ty = typeNumber (x .ty) })) (named (b + length xs) x e)
 
@@ -246,7 +234,7 @@ module _ (s : List ℕ) (path : ℕ) (t : List StackParam) (b : ℕ) (named : Na
   lay-alike xs x h = go (begins (xs ++ (x ∷ [])) (drop b (map itemOf t))) refl
     where
       same-test : isDue x (getElem? t (b + length xs)) ≡ begins (xs ++ (x ∷ [])) (drop b (map itemOf t))
-      same-test = due-at x (getElem? t (b + length xs)) ∙ sym (lay-at xs (drop b (map itemOf t)) x h ∙ ap (isAt x) (drop-at b (map itemOf t) (length xs) ∙ map-at itemOf t (b + length xs)))
+      same-test = due-at x (getElem? t (b + length xs)) ∙ sym (lay-at xs (drop b (map itemOf t)) x h ∙ ap (isAt x) (drop-at b (map itemOf t) (length xs) ∙ element-map itemOf t (b + length xs)))
 
       go : (c : Bool) → begins (xs ++ (x ∷ [])) (drop b (map itemOf t)) ≡ c → Alike s path b (drop b (map itemOf t)) (onward path (b + length xs)) (layOn s (onward path (b + length xs)) x t) (asked (drop b (map itemOf t)) xs (lay x))
       go true e =

@@ -48,7 +48,7 @@ use Rattle.turns.specs.declared.Rehearsed.the-variants.{Due, Refused}
 use Rattle.turns.specs.declared.Turn.{Turn}
 use Rattle.turns.specs.declared.Turn.the-variants.{Open, Lay, TakeBack}
 use Rattle.turns.specs.State.{beginning, onward, lowered, DueInside}
-use Rattle.rehearsal.specs.Rehearse.{shownOf, shown, onTable, onTables, onPath, isDue, layOn, opened, laid, takenBack}
+use Rattle.rehearsal.specs.Rehearse.{shownOf, shown, onTable, onTables, onPath, isDue, layOn}
 use Rattle.turns.specs.Turns.{paramOf, dueOf, dueIn, isItem, layIn, turnIn, pathVerdict, first, turnBy, tests}
 use Rattle.rehearsal.specs.Acts.{act, turned}
 use Rattle.rehearsal.proofs.Tables.{params-final}
@@ -185,17 +185,3 @@ module _ (s w t : List ℕ) (r : Rehearsal) (turn : Turn) (name : Name) {y : Lis
           b ∙ on-analyzed c r (act s r turn name) same ∙ sym (ap (onTables (r .path) (act s r turn name)) (examined s (length w) c enough (h .source, h .reads))),
           (g ∙ work-read s w t n h enough held, subst (DueInside s) (sym b) (by-inside s (tests (verdict (analyze c)) (length (c .declarations)) r) (turnIn s (items s) r turn name) (turn-inside s (items s) (st .rows .short) (λ path k x q. item-inside st refl d path k q) r turn name))),
         )
-
--- ---- the three operations are turns
-
-pub opens : (s : List ℕ) (words path due : ℕ) (x : Name) → turned s words (onward path due) Open x ≡ opened s words path
-unfolding act opened
-opens s words path due x = refl
-
-pub lays : (s : List ℕ) (words : ℕ) (r : Rehearsal) (x : Name) (k : ℕ) → turned s words r (Lay k) x ≡ laid s words r (record { name = x; ty = k })
-unfolding act laid
-lays s words r x k = refl
-
-pub takes-back : (s : List ℕ) (words : ℕ) (r : Rehearsal) (x : Name) → turned s words r TakeBack x ≡ takenBack s words r
-unfolding act takenBack
-takes-back s words r x = refl

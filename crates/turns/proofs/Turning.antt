@@ -15,6 +15,7 @@ use Rattle.ast.specs.Tree.{Name, same}
 use Rattle.text.specs.Text.{part}
 use Rattle.reporting.specs.Text.{WitnessItem, itemOf}
 use Rattle.names.specs.declared.Item.{Item}
+use Rattle.names.proofs.Laws.{and-false, and-true}
 use Rattle.declarations.specs.declared.ItemFound.{ItemFound}
 use Rattle.declarations.specs.Noted.{itemAt, found}
 use Rattle.declarations.proofs.Looking.{found-is, found-not}
@@ -46,25 +47,17 @@ module _ (a b : List ℕ) where
 
 -- ---- an item's name and type
 
-and-none : (b : Bool) → (b && false) ≡ false
-and-none true = refl
-and-none false = refl
-
-and-all : (b : Bool) → (b && true) ≡ b
-and-all true = refl
-and-all false = refl
-
 module _ (s : List ℕ) (x : Name) (q : Item) (k : ℕ) {number : ℕ} (is : number ≡ typeNumber (q .ty)) where
   pub other-type : (number ≡ k → ⊥) → false ≡ sameItem (record { name = x; ty = k }) (itemOf (paramOf s q))
   unfolding sameItem
-  other-type h = sym (rw (ne-eqb k (typeNumber (q .ty)) (λ e. h (is ∙ sym e))) (and-none (same x (part s (q .name)))))
+  other-type h = sym (rw (ne-eqb k (typeNumber (q .ty)) (λ e. h (is ∙ sym e))) (and-false (same x (part s (q .name)))))
 
   -- the part of the listing from the name's place on, as the code takes it
   pub by-name : {b : Bool} → number ≡ k → b ≡ same x (take (q .name .at + q .name .len - q .name .at) (drop (q .name .at) s)) → b ≡ sameItem (record { name = x; ty = k }) (itemOf (paramOf s q))
   unfolding sameItem part
   by-name h e =
       let n : q .name .at + q .name .len - q .name .at ≡ q .name .len = omega arith in
-      (rw n at e) ∙ sym (rw (eq-eqb k (typeNumber (q .ty)) (sym h ∙ is)) (and-all (same x (part s (q .name)))))
+      (rw n at e) ∙ sym (rw (eq-eqb k (typeNumber (q .ty)) (sym h ∙ is)) (and-true (same x (part s (q .name)))))
 
 -- ---- a turn on the items of the rows
 
