@@ -23,6 +23,9 @@ CRATE = os.path.join(ROOT, "crates", "contracts_check")
 # How many operands follow a line of each letter; an M line says it itself.
 OPERANDS = {"v": 0, "n": 0, "b": 0, "s": 0, "l": 2, "c": 2, "m": 2, "u": 1, "h": 1, "z": 1, "g": 1, "S": 2}
 
+# What the op of a wait adds to its operand in the script: bit 22 for units of 512 seconds (BIP 68).
+ADDED = {"0": 0, "1": 0, "2": 4194304}
+
 
 class Sample(Exception):
     """what is wrong with a sample"""
@@ -74,6 +77,11 @@ def block_paths(lines, i, met):
     return ended, i
 
 
+def waits(lines):
+    """the report lines of the waits"""
+    return ["W,%d,%d" % (k + 1, ADDED[lines[k][5]] + int(lines[k][6])) for k in range(len(lines)) if lines[k][0] == "L"]
+
+
 def accepted_report(listing):
     """the report, and the names of the items as Name gives them"""
     lines = [line.split(",") for line in listing.decode("ascii").splitlines()]
@@ -92,6 +100,7 @@ def accepted_report(listing):
         report.append("D,%d,%d" % (path, len(items)))
         for position, ((name, kind), (_, line)) in enumerate(zip(reversed(items), taken)):
             report.append("P,%d,%s,1,%d,%s" % (position, kind, line, name))
+    report += waits(lines)
     for path, items in enumerate(declared):
         report += ["N,%d,%d,%s" % (path, position, name) for position, (name, _) in enumerate(reversed(items))]
     return "".join(line + "\n" for line in report)

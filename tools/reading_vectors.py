@@ -25,6 +25,8 @@ How the listings are made, in the order of the file:
     contracts    random contracts that are read
     damage       those with bytes or lines changed
     stretched    those with a name, a literal, a count or a depth brought near its ceiling or past it
+    seconds      waits in units of 512 seconds (op 2), good and at fault, and ops that no wait has; no section before this
+                 one has op 2
 
 A record of data/listings is a head of 13 bytes, `length,number,line` in 5, 1 and 4 digits and byte 10, then as many bytes
 as the length says, then byte 10. The number is 0 and the line the count of lines where the listing is read.
@@ -76,7 +78,7 @@ def literal(text):
 
 
 W = [word] * 4
-TARGET, TYPE, LOCKTIME = up_to(2), up_to(3), up_to(1)
+TARGET, TYPE, LOCKTIME = up_to(2), up_to(3), up_to(2)
 LOGIC, COMPARE, MATH, UNARY, HASH = up_to(1), up_to(7), up_to(3), up_to(4), up_to(1)
 BIT = up_to(1)
 
@@ -280,13 +282,18 @@ def last_of(field):
     return max(k for k in range(10) if field(b"%d" % k) is not None)
 
 
+def last_used(field):
+    """the greatest number that `forms` and the random contracts give a field: op 2 of a wait stands in `seconds`"""
+    return 1 if field is LOCKTIME else last_of(field)
+
+
 def forms():
     for letter, (_, fields) in FORMS.items():
         add(placed(letter, written(letter, good(letter))), (0, where(letter) + len(PLACES[letter][2])))
         for i, field in enumerate(fields):
             if i == COUNTS.get(letter):
                 continue
-            texts = [b"1", b"%d" % (last_of(field) or 0)]
+            texts = [b"1", b"%d" % (last_used(field) or 0)]
             if field is name:
                 texts = [b"_", b"0", b"Zz09_", b"AZaz", b"a" * 32]
             if field is literal:
@@ -470,7 +477,7 @@ def ceilings():
         (1023, [WAIT], (4, 1025)),
         (1023, [], (3, 1025)),
         (1023, [b""], (2, 1025)),
-        (1023, [b"L,0,0,0,0,2,0"], (2, 1025)),
+        (1023, [b"L,0,0,0,0,3,0"], (2, 1025)),
         (1023, [TRUE], (3, 1025)),
         (1023, [b"v,0,0,0,0," + b"a" * 33], (3, 1025)),
         (1022, [WAIT], (3, 1025)),
@@ -650,7 +657,7 @@ def random_fields(letter):
         elif field is literal:
             out.append(bytes(rng.randrange(256) for _ in range(rng.choice([0, 1, 2, 20, 32, 33]))).hex().encode())
         else:
-            out.append(b"%d" % rng.randint(0, last_of(field)))
+            out.append(b"%d" % rng.randint(0, last_used(field)))
     return out
 
 
@@ -779,6 +786,67 @@ def contracts(count, each):
         add(stretched(rows))
 
 
+def with_ops(rows, op):
+    """the lines of a contract, each wait with the op that `op` gives it"""
+    out = []
+    for row in rows:
+        cut = row.split(b",")
+        if cut[0] == b"L":
+            cut[5] = op()
+        out.append(b",".join(cut))
+    return out
+
+
+def seconds():
+    at = where(b"L")
+    units = b"L,0,0,0,0,2,0"
+    # the op, and texts near it
+    for op in (b"0", b"1", b"2"):
+        add(placed(b"L", b"L,0,0,0,0,%s,0" % op), (0, at))
+    for op in (3, 4, 5, 6, 7, 8, 9, 12, 20, 22, 255, 256, 258, 65538, 4294967295, 4294967298, 18446744073709551618):
+        add(placed(b"L", b"L,0,0,0,0,%d,0" % op), (2, at))
+    for op in (b"02", b"002", b"+2", b"-2", b"-3", b" 2", b"2 ", b"2\r", b"2\x00", b"2.0", b"0x2", b"2e0", b"2s", b"03", b"+3", b"\xb2", b"\xc2\xb2"):
+        add(placed(b"L", b"L,0,0,0,0,%s,0" % op), (2, at))
+    # the operand: any of 64 bits is read, and its faults are those of the other ops
+    for t in (b"1", b"168", b"65535", b"65536", b"4194304", b"4194472", b"4259839", b"4294967296", b"9223372036854775807", b"-1", b"-65536", b"-9223372036854775808"):
+        add(placed(b"L", b"L,1,2,3,4,2," + t), (0, at))
+    for t in faults(signed, b"0"):
+        add(placed(b"L", b"L,0,0,0,0,2," + t), (2, at))
+    # a field missing, a field too many, no byte 10
+    for bad in (
+        b"L,0,0,0,0,2", b"L,0,0,0,2,0", b"L,2,0", b"L,2", units + b",", units + b",0", units + b",512", b"L,0,0,0,0,2,0,0,0",
+        b"L,0,0,0,0,,2,0", b"L,0,0,0,0;2;0", b"l,0,0,0,0,2,0", b"O,0,0,0,0,2,0",
+    ):
+        add(placed(b"L", bad), (2, at))
+    add(lines(HEAD) + units, (2, at))
+    add(lines(HEAD) + units + b"\r\n", (2, at))
+    # where another kind is due it is 3, and op 3 is 2 before that
+    for due, before in DUE:
+        if due != "statement":
+            add(lines(before, units), (3, len(before) + 1))
+        add(lines(before, b"L,0,0,0,0,3,0"), (2, len(before) + 1))
+    # in each place of a block, in nested blocks, and at the last line
+    add(lines(b"T,0,0", b"B,3", WAIT, b"L,0,0,0,0,1,0", units), (0, 5))
+    add(lines(b"T,0,0", b"B,3", units, b"L,0,0,0,0,3,0", units), (2, 4))
+    add(lines(b"T,1,0", b"B,2", units, RETURN, TRUE), (0, 5))
+    add(lines(b"T,2,0", b"B,2", RETURN, TRUE, units), (0, 5))
+    add(lines(HEAD, b"I,0,0,0,0,1", TRUE, b"B,1", units, b"B,2", units, units), (0, 9))
+    add(lines(HEAD, b"I,0,0,0,0,1", TRUE, b"B,1", units, b"B,2", units), (3, 9))
+    add(lines(HEAD, b"I,0,0,0,0,0", TRUE, b"B,1", units, units), (3, 7))
+    add(lines(HEAD, [b"I,0,0,0,0,0", TRUE, b"B,1"] * 31, units), (0, 96))
+    add(lines(b"T,0,0", b"B,1022", [units] * 1022), (0, 1024))
+    add(lines(b"T,0,0", b"B,1023", [WAIT] * 1022, units), (4, 1025))
+    add(lines(b"T,0,0", b"B,1022", [WAIT] * 1022, units), (3, 1025))
+    # random contracts with waits of each op; the same with one wait of op 3
+    for _ in range(40):
+        rows = with_ops(random_contract(), lambda: b"%d" % rng.randint(0, 2))
+        add(lines(rows), (0, len(rows)))
+        waits = [k for k, row in enumerate(rows) if row[:1] == b"L"]
+        if waits:
+            k = rng.choice(waits)
+            add(lines(rows[:k], with_ops(rows[k : k + 1], lambda: b"3"), rows[k + 1:]), (2, k + 1))
+
+
 # What the program prints.
 
 
@@ -801,6 +869,7 @@ def main():
     order()
     few_bytes()
     contracts(150, 4)
+    seconds()
     os.makedirs(os.path.join(CRATE, "data"), exist_ok=True)
     with open(os.path.join(CRATE, "data", "listings"), "wb") as out:
         for listing, (number, line) in records:

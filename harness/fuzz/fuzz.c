@@ -8,7 +8,8 @@
 
 #define ROOM 70000
 
-// How much of an output is filled and looked at: a short listing has a short text.
+// How much of an output is filled and looked at: a short listing has a short text, since each line of a text comes of a line
+// of the listing and has at most three bytes more.
 static size_t room_of(size_t n) { return n < 2500 ? 8192 : ROOM; }
 
 size_t LLVMFuzzerMutate(uint8_t *data, size_t size, size_t max_size);
@@ -45,6 +46,41 @@ static void judge_text(const uint8_t *text, size_t n, const uint32_t answer[5]) 
         return;
     int m = snprintf(due, sizeof due, "R,%u,%u,%u,%u,%u\n", answer[0], answer[1], answer[2], answer[3], answer[4]);
     must((size_t)m == n && memcmp(text, due, n) == 0, "a refusal's text is its answer");
+}
+
+static size_t line_end(const uint8_t *data, size_t size, size_t at) {
+    while (at < size && data[at] != 10)
+        at++;
+    return at < size ? at + 1 : size;
+}
+
+// The `W` line that is due for a line of an accepted listing; nothing if it is no wait.
+static int wait_due(const uint8_t *in, size_t n, unsigned number, char *due) {
+    char line[80];
+    unsigned op;
+    unsigned long long operand;
+    if (in[0] != 'L')
+        return 0;
+    must(n < sizeof line, "a wait within its bounds is short");
+    memcpy(line, in, n);
+    line[n] = 0;
+    must(sscanf(line, "L,%*u,%*u,%*u,%*u,%u,%llu", &op, &operand) == 2 && op <= 2, "a wait has op 0, 1 or 2");
+    must(operand <= (op == 0 ? 4294967295u : 65535u), "a wait is within its bounds");
+    return sprintf(due, "W,%u,%llu\n", number, op == 2 ? 4194304 + operand : operand);
+}
+
+// The text of an acceptance: lines A, D and P, and then a line for each wait of the listing, in the order of its lines.
+static void judge_waits(const uint8_t *in, size_t n, const uint8_t *text, size_t size) {
+    static char due[20000];
+    size_t all = 0, at = 0;
+    for (unsigned number = 1; at < n; number++) {
+        size_t end = line_end(in, n, at);
+        all += (size_t)wait_due(in + at, end - at, number, due + all);
+        at = end;
+    }
+    must(all <= size && memcmp(text + size - all, due, all) == 0, "the waits end a text, each with its line and number");
+    for (at = 0; at < size - all; at = line_end(text, size, at))
+        must(text[at] == 'A' || text[at] == 'D' || text[at] == 'P', "nothing but paths comes before the waits");
 }
 
 // Name on one item: Check's number; if there is a name, a part of the listing on a line that ends with it, else two zeros.
@@ -196,6 +232,8 @@ static void examine(const uint8_t *in, size_t n) {
     must(memcmp(checked, reported, sizeof checked) == 0, "Report answers as Check");
     must(size > 0 && size <= all && untouched(out, size, all), "bytes past the text are untouched");
     judge_text(out, size, reported);
+    if (r == 0)
+        judge_waits(in, n, out, size);
     must(report(in, n, again, size, reported) == size && memcmp(out, again, all) == 0, "an exact output is enough");
     must(report(in, n, again, size - 1, short_of) == 0 && short_of[0] == 6 && untouched(again, 0, all), "6, and nothing written");
     judge_name(in, n, r, 0, 0);
@@ -224,12 +262,6 @@ static size_t line_at(const uint8_t *data, size_t size, size_t at) {
         at--;
     (void)size;
     return at;
-}
-
-static size_t line_end(const uint8_t *data, size_t size, size_t at) {
-    while (at < size && data[at] != 10)
-        at++;
-    return at < size ? at + 1 : size;
 }
 
 static size_t drop_line(uint8_t *data, size_t size, size_t at) {

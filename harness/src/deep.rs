@@ -11,6 +11,7 @@ pub fn add(suite: &mut Suite) {
     nested_compares(suite);
     doubling_compares(suite);
     many_lines(suite);
+    many_waits(suite);
 }
 
 /// Blocks to depth 32: 31 ifs, so 32 paths with a declaration each. Each if takes an item, so the deepest path has most.
@@ -89,4 +90,23 @@ fn many_lines(suite: &mut Suite) {
     // T, D, B, E and a tree of 511 lines; two of them in one logic are 1023, so the second has one level less.
     let wide = and(full_tree(9, &|| b(true)), full_tree(8, &|| b(false)));
     suite.add("0@wide-expression", vec![vec![]], vec![returns(wide)]);
+}
+
+/// 1024 lines, T, D, B, E, b and waits, whose numbers are as long as can be; and waits in blocks to depth 32.
+fn many_waits(suite: &mut Suite) {
+    // All lines stand at 0,0,0,0, so that there is room for the numbers.
+    let mut statements: Vec<Node> = (0..1019).map(|i| after(4294967295 - i)).collect();
+    statements.push(returns(b(true)));
+    let whole = |statements: &[Node]| contract(LEGACY, vec![vec![]], statements.to_vec());
+    suite.add_placed("0@1019-waits", whole(&statements), false);
+    statements[1018] = Node { at: OUTSET, ..after(4294967296).here() };
+    suite.add_placed("21@last-of-1019-waits", whole(&statements), false);
+    for in_else in [false, true] {
+        let run = |last: Node| (0..12).map(older).chain([last]).collect::<Vec<Node>>();
+        let inner = (0..31).fold(run(returns(b(true))), |inner, _| {
+            let leaves = run(returns(b(true)));
+            run(if in_else { if_else(b(true), leaves, inner) } else { if_else(b(true), inner, leaves) })
+        });
+        suite.add("0@waits-in-32-blocks", vec![vec![]; 32], inner);
+    }
 }

@@ -1,5 +1,6 @@
-//! Reads a listing, after document 01 ("The listing") and its readings in docs/DECISIONS.md: numbers 1 to 4, or the
-//! contract that it spells. It shares nothing with the original or with the proved reader.
+//! Reads a listing, after document 01 ("The listing"), document 02 (b, op 2 of a wait) and their readings in
+//! docs/DECISIONS.md: numbers 1 to 4, or the contract that it spells. It shares nothing with the original or with the
+//! proved reader.
 
 use crate::tree::{Contract, Form, Item, Node, Where};
 
@@ -71,7 +72,7 @@ fn form_of(kind: u8) -> Option<(bool, &'static [Field])> {
         b'D' | b'B' => (false, &[Unsigned]),
         b'P' => (true, &[UpTo(3), Name]),
         b'I' | b'b' | b'l' | b'h' => (true, &[UpTo(1)]),
-        b'L' => (true, &[UpTo(1), Signed]),
+        b'L' => (true, &[UpTo(2), Signed]),
         b'V' | b'E' | b'z' | b'g' | b'S' => (true, &[]),
         b'v' => (true, &[Name]),
         b'n' => (true, &[Signed]),
@@ -300,5 +301,27 @@ impl<'a> Reader<'a> {
             factors.push(self.factor(depth + 1)?);
         }
         Ok(line.node(Form::Multi(line.numbers[4] as u32), factors))
+    }
+}
+
+#[cfg(test)]
+mod tests {
+    use super::*;
+    use crate::tree::CSV_TIME;
+
+    fn with_wait(fields: &str) -> Result<Form, Refusal> {
+        let listing = format!("T,0,1\nD,0\nB,2\nL,1,2,3,4,{fields}\nE,5,6,7,8\nb,1,2,3,4,1\n");
+        read(listing.as_bytes()).map(|contract| contract.block.parts[0].form.clone())
+    }
+
+    /// Op 2 is a form with any operand of 64 bits; op 3 is none.
+    #[test]
+    fn ops_of_a_wait() {
+        for operand in [0, 1, 65535, 65536, -1, 4194304, i64::MAX, i64::MIN] {
+            assert_eq!(with_wait(&format!("2,{operand}")), Ok(Form::Wait(CSV_TIME, operand)));
+        }
+        for none in ["3,0", "4,0", "02,0", "-2,0", "22,0", "2", "2,", "2,0,0", "2,00", "2,-0", "2,9223372036854775808"] {
+            assert_eq!(with_wait(none), Err(Refusal { number: NO_FORM, line: 4 }), "{none}");
+        }
     }
 }

@@ -19,6 +19,8 @@ mod reading;
 #[cfg(feature = "examiner")]
 mod rehearse;
 mod rng;
+#[cfg(feature = "examiner")]
+mod seconds;
 mod stored;
 mod tree;
 mod vectors;

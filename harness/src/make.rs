@@ -97,6 +97,12 @@ pub fn after(operand: i64) -> Node {
     wait(AFTER, operand)
 }
 
+/// A wait in units of 512 seconds.
+#[cfg(feature = "examiner")]
+pub fn csv_time(operand: i64) -> Node {
+    wait(CSV_TIME, operand)
+}
+
 pub fn block(statements: Vec<Node>) -> Node {
     Node::new(Form::Block, statements)
 }

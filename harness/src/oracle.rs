@@ -13,7 +13,7 @@ pub enum Answer {
     Accepted,
     /// The number of document 01 for the kind of error, and its location.
     Refused(u8, Where),
-    /// The original cannot be asked: a literal is not UTF-8.
+    /// The original cannot be asked: a literal is not UTF-8, or a wait has op 2.
     Outside,
     /// The original panicked.
     Panicked,
@@ -26,7 +26,7 @@ pub struct Built {
     pub target: Target,
 }
 
-/// Builds the original's tree. Nothing if a literal is not UTF-8.
+/// Builds the original's tree. Nothing if a literal is not UTF-8 or a wait has op 2.
 pub fn build(contract: &Contract) -> Option<Built> {
     let block = block(&contract.block)?;
     let declarations = contract.declarations.iter().map(|d| d.iter().map(item).collect()).collect();
@@ -103,6 +103,7 @@ fn statement(node: &Node) -> Option<Statement> {
             };
             Statement::IfStatement { loc, condition_expr: part(0)?, if_block: block(&node.parts[1])?, else_block }
         }
+        Form::Wait(tree::CSV_TIME, _) => return None,
         Form::Wait(op, operand) => {
             let op = [LocktimeOp::Cltv, LocktimeOp::Csv][usize::from(*op)].clone();
             Statement::LocktimeStatement { loc, operand: *operand, op }
@@ -196,5 +197,14 @@ mod tests {
         assert_eq!((LocktimeOp::Cltv as u8, LocktimeOp::Csv as u8), (tree::AFTER, tree::OLDER));
         let types = [Type::Signature as u8, Type::Number as u8, Type::String as u8, Type::Boolean as u8];
         assert_eq!(types, [tree::SIGNATURE, tree::NUMBER, tree::STRING, tree::BOOLEAN]);
+    }
+
+    /// A wait of op 2 is not put to the original.
+    #[test]
+    fn op_2_is_outside() {
+        use crate::make::{b, contract, returns, wait};
+        let answer_with = |op| answer(&contract(0, vec![vec![]], vec![wait(op, 65535), returns(b(true))]));
+        let answers = [tree::AFTER, tree::OLDER, tree::CSV_TIME].map(answer_with);
+        assert_eq!(answers, [Answer::Accepted, Answer::Accepted, Answer::Outside]);
     }
 }

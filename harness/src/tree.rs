@@ -23,8 +23,10 @@ pub const NUMBER: u8 = 1;
 pub const STRING: u8 = 2;
 pub const BOOLEAN: u8 = 3;
 
+/// The ops of a wait: `Cltv`, `Csv` in blocks, and `CsvTime`, in units of 512 seconds, which the original does not have.
 pub const AFTER: u8 = 0;
 pub const OLDER: u8 = 1;
+pub const CSV_TIME: u8 = 2;
 
 pub const EQUAL: u8 = 0;
 pub const NOT_EQUAL: u8 = 1;

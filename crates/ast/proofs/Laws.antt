@@ -96,6 +96,7 @@ pub crypto-back : (x : UnaryCryptoOp) → getD cryptoOps (cryptoNumber x) UnaryC
 crypto-back UnaryCryptoOp.Sha256 = refl
 crypto-back UnaryCryptoOp.Ripemd160 = refl
 
-pub locktime-back : (x : LocktimeOp) → getD locktimeOps (locktimeNumber x) LocktimeOp.Csv ≡ x
+pub locktime-back : (x : LocktimeOp) → getD locktimeOps (locktimeNumber x) LocktimeOp.CsvTime ≡ x
 locktime-back LocktimeOp.Cltv = refl
 locktime-back LocktimeOp.Csv = refl
+locktime-back LocktimeOp.CsvTime = refl

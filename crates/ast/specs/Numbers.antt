@@ -19,7 +19,7 @@ use Rattle.ast.specs.declared.UnaryMathOp.the-variants.{Add as UnaryAdd,
 use Rattle.ast.specs.declared.UnaryCryptoOp.{UnaryCryptoOp}
 use Rattle.ast.specs.declared.UnaryCryptoOp.the-variants.{Sha256, Ripemd160}
 use Rattle.ast.specs.declared.LocktimeOp.{LocktimeOp}
-use Rattle.ast.specs.declared.LocktimeOp.the-variants.{Cltv, Csv}
+use Rattle.ast.specs.declared.LocktimeOp.the-variants.{Cltv, Csv, CsvTime}
 use Rattle.ast.specs.declared.ErrorKind.{ErrorKind}
 use Rattle.ast.specs.declared.ErrorKind.the-variants.{ListingTooLong, MalformedLine, UnexpectedLine, CeilingPassed, WorkTooShort, OutputTooShort, DuplicateVariable, UndefinedVariable, VariableConsumed, UnusedVariable, InvalidConsumptionOrder, TypeMismatch, InvalidOperation, NoReturn, UnreachableCode, DeclarationPathMismatch, IntegerOverflow, MalformedPubkey, NoSuchPath, NotDue}
 use Rattle.ast.specs.declared.KindFound.{KindFound}
@@ -47,7 +47,7 @@ abbrev pub cryptoOps : List UnaryCryptoOp
 cryptoOps = Sha256 ∷ Ripemd160 ∷ []
 
 abbrev pub locktimeOps : List LocktimeOp
-locktimeOps = Cltv ∷ Csv ∷ []
+locktimeOps = Cltv ∷ Csv ∷ CsvTime ∷ []
 
 -- the number of each
 abbrev pub targetNumber : Target → ℕ
@@ -95,6 +95,7 @@ cryptoNumber Ripemd160 = 1
 abbrev pub locktimeNumber : LocktimeOp → ℕ
 locktimeNumber Cltv = 0
 locktimeNumber Csv = 1
+locktimeNumber CsvTime = 2
 
 -- all kinds, in the order of their numbers
 abbrev pub kinds : List ErrorKind

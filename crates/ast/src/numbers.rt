@@ -10,7 +10,7 @@ ghost use Rattle.ast.specs.declared.BinaryCompareOp.the-variants.{NumNot
 ghost use Rattle.ast.specs.declared.BinaryMathOp.the-variants.{Min};
 ghost use Rattle.ast.specs.declared.UnaryMathOp.the-variants.{Not};
 ghost use Rattle.ast.specs.declared.UnaryCryptoOp.the-variants.{Ripemd160};
-ghost use Rattle.ast.specs.declared.LocktimeOp.the-variants.{Csv};
+ghost use Rattle.ast.specs.declared.LocktimeOp.the-variants.{CsvTime};
 use crate::BinaryCompareOp;
 use crate::BinaryLogicalOp;
 use crate::BinaryMathOp;
@@ -111,11 +111,12 @@ pub fn crypto_from(n: u32) -> UnaryCryptoOp
 }
 
 pub fn locktime_from(n: u32) -> LocktimeOp
-    ensures { λ r. ⌜ r ≡ getD locktimeOps n Csv ⌝ }
+    ensures { λ r. ⌜ r ≡ getD locktimeOps n CsvTime ⌝ }
 {
     match n {
         0 => LocktimeOp::Cltv,
-        _ => LocktimeOp::Csv,
+        1 => LocktimeOp::Csv,
+        _ => LocktimeOp::CsvTime,
     }
 }
 

@@ -41,7 +41,9 @@ BITHOVEN_MUST_USE uint32_t bithoven_check(const uint8_t *listing, size_t listing
  * answer                 as with bithoven_check; or 6 and four zeros if output is shorter than the text, which then is left
  *                        as it was
  *
- * Returns the length of the text, 0 with 6. A text opens with `A,` if the listing is accepted, else with `R,`. */
+ * Returns the length of the text, 0 with 6. A text opens with `A,` if the listing is accepted, else with `R,`. After the
+ * lines of the paths an accepted listing's text has a line `W,listing line,number` for each wait, in the order of the
+ * listing; the number is the one that the script will carry. 65536 bytes of output hold the text of every listing. */
 BITHOVEN_MUST_USE size_t bithoven_report(const uint8_t *listing, size_t listing_len, uint8_t *output, size_t output_len,
                                          uint32_t answer[5]);
 

@@ -25,68 +25,70 @@ use Rattle.nodes.specs.Stands.{ExpressionAt, StatementAt, BlockAt}
 use Rattle.nodes.proofs.Laws.{below}
 use Rattle.rules.specs.Result.{Result, ok, err, _>>=_, _>>_}
 use Rattle.rules.specs.Table.{Table}
-use Rattle.rules.specs.Walk.{Walked as Walk, tableAt, examineAt, cross, walkStatement, walk}
+use Rattle.rules.specs.Walk.{tableAt, examineAt}
 use Rattle.paths.specs.declared.NamePlace.{NamePlace}
 use Rattle.paths.specs.declared.Path.{Path}
 use Rattle.paths.specs.Path.{tableOf, WellFormed}
 use Rattle.declarations.specs.declared.Declared.{Declared}
+use Rattle.tables.specs.Held.{Held, walkHeld, statementHeld, examineHeld, crossHeld}
 use Rattle.tables.specs.State.{tablesOf, Ready, nextIn, branchIn, outcome, Moved, passed}
 use Rattle.statements.specs.Steps.{tablesWith, OnPath, examined}
 use Rattle.statements.proofs.Walking.{at-next}
+use Rattle.tables.proofs.Held.{held-cons, held-none, held-last, held-if, held-else}
 use Rattle.tables.proofs.State.{passed-says, passed-zero, outcome-pass, outcome-fault, moved-refused, element-set, set-past, table-at, table-past}
 
 -- the else-block b of an if at l: from w, where the walk of the if-block has come to, to the next path, t being the table after the condition
-abbrev pub walkElse : Block → Target → Location → Table → Walk → Result Walk
-walkElse b g l t w = cross l t w >>= λ w′. walk b g (w′ .tables) (w′ .branch)
+abbrev pub walkElse : Block → Target → Location → Table → Held → Result Held
+walkElse b g l t w = crossHeld l t w >>= λ w′. walkHeld b g (w′ .tables) (w′ .branch)
 
 -- the same step under another name of its result
-pub moved-as : {s t : List ℕ} {d : Declared} {w v : Result Walk} {j k : ℕ} {rows : List (List NamePlace)} {taken out : List ℕ} → Moved s t d w j rows taken out → w ≡ v → j ≡ k → Moved s t d v k rows taken out
+pub moved-as : {s t : List ℕ} {d : Declared} {w v : Result Held} {j k : ℕ} {rows : List (List NamePlace)} {taken out : List ℕ} → Moved s t d w j rows taken out → w ≡ v → j ≡ k → Moved s t d v k rows taken out
 moved-as m e q = record { result = m .result ∙ e; full = m .full; next = λ z. m .next z ∙ q; ready = m .ready; refused = m .refused }
 
 -- a step that refused
-pub moved-fault : {s t : List ℕ} {d : Declared} {w : Result Walk} {j : ℕ} {rows : List (List NamePlace)} {taken out : List ℕ} (m : Moved s t d w j rows taken out) (z : getD out 0 0 ≡ 0 → ⊥) → w ≡ err (m .refused z .0)
+pub moved-fault : {s t : List ℕ} {d : Declared} {w : Result Held} {j : ℕ} {rows : List (List NamePlace)} {taken out : List ℕ} (m : Moved s t d w j rows taken out) (z : getD out 0 0 ≡ 0 → ⊥) → w ≡ err (m .refused z .0)
 moved-fault {s} {t} {d} {rows = rows} {taken = taken} m z = sym (m .result) ∙ outcome-fault (m .refused z .1) (tablesOf s t d rows taken)
 
 -- as the result of what would have gone on
-pub moved-stop : {s t : List ℕ} {d : Declared} {w : Result Walk} {j : ℕ} {rows : List (List NamePlace)} {taken out : List ℕ} → Moved s t d w j rows taken out → (getD out 0 0 ≡ 0 → ⊥) → (v : Result Walk) (k : ℕ) → ((x : CompileError) → w ≡ err x → v ≡ err x) → Moved s t d v k rows taken out
+pub moved-stop : {s t : List ℕ} {d : Declared} {w : Result Held} {j : ℕ} {rows : List (List NamePlace)} {taken out : List ℕ} → Moved s t d w j rows taken out → (getD out 0 0 ≡ 0 → ⊥) → (v : Result Held) (k : ℕ) → ((x : CompileError) → w ≡ err x → v ≡ err x) → Moved s t d v k rows taken out
 moved-stop m z v k f = moved-refused (m .refused z .1) (f _ (moved-fault m z))
 
 -- a step that passed
-pub moved-on : {s t : List ℕ} {d : Declared} {w : Result Walk} {j : ℕ} {rows : List (List NamePlace)} {taken out : List ℕ} → Moved s t d w j rows taken out → getD out 0 0 ≡ 0 → w ≡ ok (record { tables = tablesOf s t d rows taken; branch = branchIn out })
+pub moved-on : {s t : List ℕ} {d : Declared} {w : Result Held} {j : ℕ} {rows : List (List NamePlace)} {taken out : List ℕ} → Moved s t d w j rows taken out → getD out 0 0 ≡ 0 → w ≡ ok (record { tables = tablesOf s t d rows taken; branch = branchIn out })
 moved-on {s} {t} {d} {rows = rows} {taken = taken} {out = out} m z = sym (m .result) ∙ outcome-pass (tablesOf s t d rows taken) out z
 
 -- a pass to row i, the tables as they are
-pub moved-end : {s t : List ℕ} (d : Declared) (rows : List (List NamePlace)) (taken out : List ℕ) {whole : Result Walk} {i j : ℕ} (out′ : List ℕ) → length out ≡ 7 → Ready s t d rows taken → (whole ≡ ok (record { tables = tablesOf s t d rows taken; branch = branchIn out })) × (i ≡ j) → out′ ≡ passed out i → Moved s t d whole j rows taken out′
+pub moved-end : {s t : List ℕ} (d : Declared) (rows : List (List NamePlace)) (taken out : List ℕ) {whole : Result Held} {i j : ℕ} (out′ : List ℕ) → length out ≡ 7 → Ready s t d rows taken → (whole ≡ ok (record { tables = tablesOf s t d rows taken; branch = branchIn out })) × (i ≡ j) → out′ ≡ passed out i → Moved s t d whole j rows taken out′
 moved-end {s} {t} d rows taken out {whole} {i} out′ full r e q =
     let p = passed-says out i (tablesOf s t d rows taken) full in
     record { result = ap (outcome (tablesOf s t d rows taken)) q ∙ p .0 ∙ sym (e .0); full = ap length q ∙ p .2; next = λ z. ap (λ o. getD o 5 0) q ∙ p .1 ∙ e .1; ready = λ z. r; refused = λ z. absurd (z (ap (λ o. getD o 0 0) q ∙ passed-zero out i full)) }
 
 -- a condition that passed: the table after it, and the path in use
-pub record Passed (g : Target) (l : Location) (e : Expression) (ts : List Table) (n : ℕ) (w : Walk) : Type 0 where
+pub record Passed (g : Target) (l : Location) (e : Expression) (ts : List Table) (n : ℕ) (w : Held) : Type 0 where
   pub table : Table
-  pub is : examineAt g l e ts n ≡ ok table
+  pub is : examineHeld g l e ts n ≡ ok table
   pub after : w ≡ record { tables = set ts n table; branch = n }
 
-pub examined-ok : (g : Target) (l : Location) (e : Expression) (ts : List Table) (n : ℕ) {w : Walk} → examined g l e ts n ≡ ok w → Passed g l e ts n w
+pub examined-ok : (g : Target) (l : Location) (e : Expression) (ts : List Table) (n : ℕ) {w : Held} → examined g l e ts n ≡ ok w → Passed g l e ts n w
 unfolding examined
-examined-ok g l e ts n {w} h = go (examineAt g l e ts n) refl
+examined-ok g l e ts n {w} h = go (examineHeld g l e ts n) refl
   where
-    go : (y : Result Table) → examineAt g l e ts n ≡ y → Passed g l e ts n w
-    go (ok v) q = let f : _≡_ {A = Result Walk} (ok (record { tables = set ts n v; branch = n })) (ok w) = rw q at h in let a : record { tables = set ts n v; branch = n } ≡ w = cc in record { table = v; is = q; after = sym a }
-    go (err x) q = let f : _≡_ {A = Result Walk} (err x) (ok w) = rw q at h in let o : _≡_ {A = ℕ} 0 1 = cc in absurd (omega arith)
+    go : (y : Result Table) → examineHeld g l e ts n ≡ y → Passed g l e ts n w
+    go (ok v) q = let f : _≡_ {A = Result Held} (ok (record { tables = set ts n v; branch = n })) (ok w) = rw q at h in let a : record { tables = set ts n v; branch = n } ≡ w = cc in record { table = v; is = q; after = sym a }
+    go (err x) q = let f : _≡_ {A = Result Held} (err x) (ok w) = rw q at h in let o : _≡_ {A = ℕ} 0 1 = cc in absurd (omega arith)
 
-examined-err : (g : Target) (l : Location) (e : Expression) (ts : List Table) (n : ℕ) {x : CompileError} → examined g l e ts n ≡ err x → examineAt g l e ts n ≡ err x
+examined-err : (g : Target) (l : Location) (e : Expression) (ts : List Table) (n : ℕ) {x : CompileError} → examined g l e ts n ≡ err x → examineHeld g l e ts n ≡ err x
 unfolding examined
-examined-err g l e ts n {x} h = go (examineAt g l e ts n) refl
+examined-err g l e ts n {x} h = go (examineHeld g l e ts n) refl
   where
-    go : (y : Result Table) → examineAt g l e ts n ≡ y → examineAt g l e ts n ≡ err x
-    go (ok v) q = let f : _≡_ {A = Result Walk} (ok (record { tables = set ts n v; branch = n })) (err x) = rw q at h in let o : _≡_ {A = ℕ} 0 1 = cc in absurd (omega arith)
-    go (err y) q = let f : _≡_ {A = Result Walk} (err y) (err x) = rw q at h in let a : y ≡ x = cc in q ∙ ap err a
+    go : (y : Result Table) → examineHeld g l e ts n ≡ y → examineHeld g l e ts n ≡ err x
+    go (ok v) q = let f : _≡_ {A = Result Held} (ok (record { tables = set ts n v; branch = n })) (err x) = rw q at h in let o : _≡_ {A = ℕ} 0 1 = cc in absurd (omega arith)
+    go (err y) q = let f : _≡_ {A = Result Held} (err y) (err x) = rw q at h in let a : y ≡ x = cc in q ∙ ap err a
 
 -- an if, with an else or without: its condition and its block, and what the walk makes of them
 abbrev pub Rest : Bool → (ℕ → Line) → List ℕ → Location → Expression → Block → ℕ → Statement → ℕ → Type 0
-Rest false L s l e b m x j = (m ≡ j) × ((g : Target) (ts : List Table) (n : ℕ) (v : Table) → examineAt g l e ts n ≡ ok v → walkStatement x g ts n ≡ walk b g (set ts n v) n)
-Rest true L s l e b m x j = (c : Block) × SpellsBlock L s m c j × ((g : Target) (ts : List Table) (n : ℕ) (v : Table) (w : Walk) → examineAt g l e ts n ≡ ok v → walk b g (set ts n v) n ≡ ok w → walkStatement x g ts n ≡ (cross l v w >>= λ w′. walk c g (w′ .tables) (w′ .branch)))
+Rest false L s l e b m x j = (m ≡ j) × ((g : Target) (ts : List Table) (n : ℕ) (v : Table) → examineHeld g l e ts n ≡ ok v → statementHeld x g ts n ≡ walkHeld b g (set ts n v) n)
+Rest true L s l e b m x j = (c : Block) × SpellsBlock L s m c j × ((g : Target) (ts : List Table) (n : ℕ) (v : Table) (w : Held) → examineHeld g l e ts n ≡ ok v → walkHeld b g (set ts n v) n ≡ ok w → statementHeld x g ts n ≡ (crossHeld l v w >>= λ w′. walkHeld c g (w′ .tables) (w′ .branch)))
 
 pub record IfParts (L : ℕ → Line) (s : List ℕ) (l : Location) (h : Bool) (i : ℕ) (x : Statement) (j : ℕ) : Type 0 where
   pub cond : Expression
@@ -96,12 +98,11 @@ pub record IfParts (L : ℕ → Line) (s : List ℕ) (l : Location) (h : Bool) (
   pub end : ℕ
   pub inner : SpellsBlock L s mid block end
   pub within : end ≤ j
-  pub stops : (g : Target) (ts : List Table) (n : ℕ) (y : CompileError) → examined g l cond ts n ≡ err y → walkStatement x g ts n ≡ err y
-  pub stops₂ : (g : Target) (ts : List Table) (n : ℕ) (v : Table) (y : CompileError) → examineAt g l cond ts n ≡ ok v → walk block g (set ts n v) n ≡ err y → walkStatement x g ts n ≡ err y
+  pub stops : (g : Target) (ts : List Table) (n : ℕ) (y : CompileError) → examined g l cond ts n ≡ err y → statementHeld x g ts n ≡ err y
+  pub stops₂ : (g : Target) (ts : List Table) (n : ℕ) (v : Table) (y : CompileError) → examineHeld g l cond ts n ≡ ok v → walkHeld block g (set ts n v) n ≡ err y → statementHeld x g ts n ≡ err y
   pub rest : Rest h L s l cond block end x j
 
 pub if-parts : (L : ℕ → Line) (s : List ℕ) (l : Location) (h : Bool) (i : ℕ) (x : Statement) (j : ℕ) → StatementFrom L s (StatementLine.IfStatement l h) i x j → IfParts L s l h i x j
-unfolding walkStatement
 if-parts L s l false i x j (a, b, k, u, v, e) = record {
   cond = a;
   mid = k;
@@ -110,9 +111,9 @@ if-parts L s l false i x j (a, b, k, u, v, e) = record {
   end = j;
   inner = v;
   within = omega arith;
-  stops = λ g ts n y q. ap (λ x. walkStatement x g ts n) e ∙ rw (examined-err g l a ts n q, walkStatement);
-  stops₂ = λ g ts n v y p q. ap (λ x. walkStatement x g ts n) e ∙ rw (p, walkStatement) q;
-  rest = (refl, λ g ts n v p. ap (λ x. walkStatement x g ts n) e ∙ rw (p, walkStatement));
+  stops = λ g ts n y q. ap (λ x. statementHeld x g ts n) e ∙ held-if l a b g ts n ∙ rw (examined-err g l a ts n q);
+  stops₂ = λ g ts n v y p q. ap (λ x. statementHeld x g ts n) e ∙ held-if l a b g ts n ∙ rw (p) q;
+  rest = (refl, λ g ts n v p. ap (λ x. statementHeld x g ts n) e ∙ held-if l a b g ts n ∙ rw (p));
 }
 if-parts L s l true i x j (a, b, c, k, m, u, v, w, e) = record {
   cond = a;
@@ -122,19 +123,19 @@ if-parts L s l true i x j (a, b, c, k, m, u, v, w, e) = record {
   end = m;
   inner = v;
   within = omega (arith, block-on L s w);
-  stops = λ g ts n y q. ap (λ x. walkStatement x g ts n) e ∙ rw (examined-err g l a ts n q, walkStatement);
-  stops₂ = λ g ts n v y p q. ap (λ x. walkStatement x g ts n) e ∙ rw (p, q, walkStatement);
-  rest = (c, w, λ g ts n v y p q. ap (λ x. walkStatement x g ts n) e ∙ rw (p, q, walkStatement));
+  stops = λ g ts n y q. ap (λ x. statementHeld x g ts n) e ∙ held-else l a b c g ts n ∙ rw (examined-err g l a ts n q);
+  stops₂ = λ g ts n v y p q. ap (λ x. statementHeld x g ts n) e ∙ held-else l a b c g ts n ∙ rw (p, q);
+  rest = (c, w, λ g ts n v y p q. ap (λ x. statementHeld x g ts n) e ∙ held-else l a b c g ts n ∙ rw (p, q));
 }
 
 -- after a condition that passed on path n, from p to q: the path's own table is the one after the condition
 pub record Conditioned (s t : List ℕ) (d : Declared) (l : Location) (e : Expression) (rows : List (List NamePlace)) (taken : List ℕ) (n : ℕ) (p q : Path) : Type 0 where
-  pub is : examineAt (d .target) l e (tablesWith s t d rows taken n p) n ≡ ok (tableOf s t q)
+  pub is : examineHeld (d .target) l e (tablesWith s t d rows taken n p) n ≡ ok (tableOf s t q)
   pub tables : set (tablesWith s t d rows taken n p) n (tableOf s t q) ≡ tablesWith s t d rows taken n q
   pub within : n < d .count
 
 -- a path that is examined is one of those declared
-path-within : (s t : List ℕ) (d : Declared) (l : Location) (e : Expression) (rows : List (List NamePlace)) (taken : List ℕ) (n : ℕ) (p : Path) {v : Table} → examineAt (d .target) l e (tablesWith s t d rows taken n p) n ≡ ok v → n < d .count
+path-within : (s t : List ℕ) (d : Declared) (l : Location) (e : Expression) (rows : List (List NamePlace)) (taken : List ℕ) (n : ℕ) (p : Path) {v : Table} → examineHeld (d .target) l e (tablesWith s t d rows taken n p) n ≡ ok v → n < d .count
 unfolding examineAt tableAt
 path-within s t d l e rows taken n p {v} h = go (ltb n (d .count)) refl
   where
@@ -178,12 +179,12 @@ no-statements e SpellsStatements.nil = (refl, refl)
 no-statements e (SpellsStatements.cons u v) = absurd (omega arith)
 
 -- in the middle of a block: what is left of it, and that its walk is the block's
-pub record Going (L : ℕ → Line) (s : List ℕ) (g : Target) (left i j : ℕ) (whole : Result Walk) (ts : List Table) (n : ℕ) : Type 0 where
+pub record Going (L : ℕ → Line) (s : List ℕ) (g : Target) (left i j : ℕ) (whole : Result Held) (ts : List Table) (n : ℕ) : Type 0 where
   pub block : Block
   pub spells : SpellsStatements L s left i block j
-  pub same : walk block g ts n ≡ whole
+  pub same : walkHeld block g ts n ≡ whole
 
-module _ {L : ℕ → Line} {s : List ℕ} {g : Target} {count k i j : ℕ} {whole : Result Walk} {ts : List Table} {n : ℕ} (h : Going L s g (count - k) i j whole ts n) (more : k < count) where
+module _ {L : ℕ → Line} {s : List ℕ} {g : Target} {count k i j : ℕ} {whole : Result Held} {ts : List Table} {n : ℕ} (h : Going L s g (count - k) i j whole ts n) (more : k < count) where
   left : count - k ≡ suc (count - (k + 1))
   left = omega arith
 
@@ -194,47 +195,39 @@ module _ {L : ℕ → Line} {s : List ℕ} {g : Target} {count k i j : ℕ} {who
   head-within = statements-on L s (first .rest)
 
   -- its walk goes on from its first statement
-  pub going-err : (x : CompileError) → walkStatement (first .head) g ts n ≡ err x → whole ≡ err x
-  unfolding walk
-  going-err x e = sym (h .same) ∙ ap (λ b. walk b g ts n) (first .is) ∙ rw (e, walk)
+  pub going-err : (x : CompileError) → statementHeld (first .head) g ts n ≡ err x → whole ≡ err x
+  going-err x e = sym (h .same) ∙ ap (λ b. walkHeld b g ts n) (first .is) ∙ held-cons (first .head) (first .tail) g ts n ∙ rw e
 
-  pub going-on : {m : ℕ} (w : Walk) → walkStatement (first .head) g ts n ≡ ok w → m ≡ first .mid → Going L s g (count - (k + 1)) m j whole (w .tables) (w .branch)
-  unfolding walk
-  going-on {m} w e q = record { block = first .tail; spells = subst (λ x. SpellsStatements L s (count - (k + 1)) x (first .tail) j) (sym q) (first .rest); same = sym (ap (λ b. walk b g ts n) (first .is) ∙ rw (e, walk)) ∙ h .same }
+  pub going-on : {m : ℕ} (w : Held) → statementHeld (first .head) g ts n ≡ ok w → m ≡ first .mid → Going L s g (count - (k + 1)) m j whole (w .tables) (w .branch)
+  going-on {m} w e q = record { block = first .tail; spells = subst (λ x. SpellsStatements L s (count - (k + 1)) x (first .tail) j) (sym q) (first .rest); same = sym (ap (λ b. walkHeld b g ts n) (first .is) ∙ held-cons (first .head) (first .tail) g ts n ∙ rw e) ∙ h .same }
 
   -- it is the last one: its walk is the block's
-  pub going-last : count - (k + 1) ≡ 0 → (walkStatement (first .head) g ts n ≡ whole) × (first .mid ≡ j)
-  unfolding walk
+  pub going-last : count - (k + 1) ≡ 0 → (statementHeld (first .head) g ts n ≡ whole) × (first .mid ≡ j)
   going-last e =
       let z = no-statements e (first .rest) in
-      (go (walkStatement (first .head) g ts n) refl ∙ sym (ap (λ b. walk b g ts n) (first .is ∙ ap (λ b. first .head ∷ᵇ b) (z .0))) ∙ h .same, z .1)
-    where
-      go : (w : Result Walk) → walkStatement (first .head) g ts n ≡ w → walkStatement (first .head) g ts n ≡ walk (first .head ∷ᵇ []ᵇ) g ts n
-      go (ok w) e = e ∙ sym (rw (e, walk))
-      go (err x) e = e ∙ sym (rw (e, walk))
+      (sym (held-last (first .head) g ts n) ∙ sym (ap (λ b. walkHeld b g ts n) (first .is ∙ ap (λ b. first .head ∷ᵇ b) (z .0))) ∙ h .same, z .1)
 
-pub going-as : {L : ℕ → Line} {s : List ℕ} {g : Target} {left i j : ℕ} {whole : Result Walk} {ts us : List Table} {n : ℕ} → Going L s g left i j whole ts n → us ≡ ts → Going L s g left i j whole us n
-going-as {g = g} {n = n} h e = record { block = h .block; spells = h .spells; same = ap (λ ts. walk (h .block) g ts n) e ∙ h .same }
+pub going-as : {L : ℕ → Line} {s : List ℕ} {g : Target} {left i j : ℕ} {whole : Result Held} {ts us : List Table} {n : ℕ} → Going L s g left i j whole ts n → us ≡ ts → Going L s g left i j whole us n
+going-as {g = g} {n = n} h e = record { block = h .block; spells = h .spells; same = ap (λ ts. walkHeld (h .block) g ts n) e ∙ h .same }
 
-pub going-end : {L : ℕ → Line} {s : List ℕ} {g : Target} {left i j : ℕ} {whole : Result Walk} {ts : List Table} {n : ℕ} → Going L s g left i j whole ts n → left ≡ 0 → (whole ≡ ok (record { tables = ts; branch = n })) × (i ≡ j)
-unfolding walk
-going-end {g = g} {ts = ts} {n = n} h e = let z = no-statements e (h .spells) in (sym (h .same) ∙ ap (λ b. walk b g ts n) (z .0), z .1)
+pub going-end : {L : ℕ → Line} {s : List ℕ} {g : Target} {left i j : ℕ} {whole : Result Held} {ts : List Table} {n : ℕ} → Going L s g left i j whole ts n → left ≡ 0 → (whole ≡ ok (record { tables = ts; branch = n })) × (i ≡ j)
+going-end {g = g} {ts = ts} {n = n} h e = let z = no-statements e (h .spells) in (sym (h .same) ∙ ap (λ b. walkHeld b g ts n) (z .0) ∙ held-none g ts n, z .1)
 
 -- an if, step by step: its condition has passed on path n, from p to q
 module _ {L : ℕ → Line} (s t : List ℕ) (d : Declared) {l : Location} {i j : ℕ} {x : Statement} (rows₁ : List (List NamePlace)) (taken₁ : List ℕ) (n : ℕ) (p q : Path) where
   module _ {h : Bool} (P : IfParts L s l h i x j) (C : Conditioned s t d l (P .cond) rows₁ taken₁ n p q) where
-    inner-is : walk (P .block) (d .target) (set (tablesWith s t d rows₁ taken₁ n p) n (tableOf s t q)) n ≡ walk (P .block) (d .target) (tablesWith s t d rows₁ taken₁ n q) n
-    inner-is = ap (λ w. walk (P .block) (d .target) w n) (C .tables)
+    inner-is : walkHeld (P .block) (d .target) (set (tablesWith s t d rows₁ taken₁ n p) n (tableOf s t q)) n ≡ walkHeld (P .block) (d .target) (tablesWith s t d rows₁ taken₁ n q) n
+    inner-is = ap (λ w. walkHeld (P .block) (d .target) w n) (C .tables)
 
     -- its block refuses
-    pub block-stops : {k : ℕ} {rows : List (List NamePlace)} {taken out : List ℕ} → Moved s t d (walk (P .block) (d .target) (tablesWith s t d rows₁ taken₁ n q) n) k rows taken out → (getD out 0 0 ≡ 0 → ⊥) → Moved s t d (walkStatement x (d .target) (tablesWith s t d rows₁ taken₁ n p) n) j rows taken out
-    block-stops m z = moved-stop m z (walkStatement x (d .target) (tablesWith s t d rows₁ taken₁ n p) n) j (λ y e. P .stops₂ (d .target) (tablesWith s t d rows₁ taken₁ n p) n (tableOf s t q) y (C .is) (inner-is ∙ e))
+    pub block-stops : {k : ℕ} {rows : List (List NamePlace)} {taken out : List ℕ} → Moved s t d (walkHeld (P .block) (d .target) (tablesWith s t d rows₁ taken₁ n q) n) k rows taken out → (getD out 0 0 ≡ 0 → ⊥) → Moved s t d (statementHeld x (d .target) (tablesWith s t d rows₁ taken₁ n p) n) j rows taken out
+    block-stops m z = moved-stop m z (statementHeld x (d .target) (tablesWith s t d rows₁ taken₁ n p) n) j (λ y e. P .stops₂ (d .target) (tablesWith s t d rows₁ taken₁ n p) n (tableOf s t q) y (C .is) (inner-is ∙ e))
 
   -- there is no else
-  pub if-only : {h : Bool} (P : IfParts L s l h i x j) (C : Conditioned s t d l (P .cond) rows₁ taken₁ n p q) → h ≡ false → {rows : List (List NamePlace)} {taken out : List ℕ} → Moved s t d (walk (P .block) (d .target) (tablesWith s t d rows₁ taken₁ n q) n) (P .end) rows taken out → Moved s t d (walkStatement x (d .target) (tablesWith s t d rows₁ taken₁ n p) n) j rows taken out
+  pub if-only : {h : Bool} (P : IfParts L s l h i x j) (C : Conditioned s t d l (P .cond) rows₁ taken₁ n p q) → h ≡ false → {rows : List (List NamePlace)} {taken out : List ℕ} → Moved s t d (walkHeld (P .block) (d .target) (tablesWith s t d rows₁ taken₁ n q) n) (P .end) rows taken out → Moved s t d (statementHeld x (d .target) (tablesWith s t d rows₁ taken₁ n p) n) j rows taken out
   if-only {h} P C e m = go h P C e m
     where
-      go : (h : Bool) (P : IfParts L s l h i x j) (C : Conditioned s t d l (P .cond) rows₁ taken₁ n p q) → h ≡ false → {rows : List (List NamePlace)} {taken out : List ℕ} → Moved s t d (walk (P .block) (d .target) (tablesWith s t d rows₁ taken₁ n q) n) (P .end) rows taken out → Moved s t d (walkStatement x (d .target) (tablesWith s t d rows₁ taken₁ n p) n) j rows taken out
+      go : (h : Bool) (P : IfParts L s l h i x j) (C : Conditioned s t d l (P .cond) rows₁ taken₁ n p q) → h ≡ false → {rows : List (List NamePlace)} {taken out : List ℕ} → Moved s t d (walkHeld (P .block) (d .target) (tablesWith s t d rows₁ taken₁ n q) n) (P .end) rows taken out → Moved s t d (statementHeld x (d .target) (tablesWith s t d rows₁ taken₁ n p) n) j rows taken out
       go false P C e m = moved-as m (sym (P .rest .1 (d .target) (tablesWith s t d rows₁ taken₁ n p) n (tableOf s t q) (C .is) ∙ inner-is P C)) (P .rest .0)
       go true P C e m = let o : _≡_ {A = ℕ} 0 1 = cc in absurd (omega arith)
 
@@ -242,9 +235,9 @@ module _ {L : ℕ → Line} (s t : List ℕ) (d : Declared) {l : Location} {i j 
   pub record Else (P : IfParts L s l true i x j) (rows₂ : List (List NamePlace)) (taken₂ out₂ : List ℕ) : Type 0 where
     pub block : Block
     pub spells : SpellsBlock L s (P .end) block j
-    pub same : walkStatement x (d .target) (tablesWith s t d rows₁ taken₁ n p) n ≡ walkElse block (d .target) l (tableOf s t q) (record { tables = tablesOf s t d rows₂ taken₂; branch = branchIn out₂ })
+    pub same : statementHeld x (d .target) (tablesWith s t d rows₁ taken₁ n p) n ≡ walkElse block (d .target) l (tableOf s t q) (record { tables = tablesOf s t d rows₂ taken₂; branch = branchIn out₂ })
 
-  pub else-parts : (P : IfParts L s l true i x j) (C : Conditioned s t d l (P .cond) rows₁ taken₁ n p q) {k : ℕ} {rows₂ : List (List NamePlace)} {taken₂ out₂ : List ℕ} → Moved s t d (walk (P .block) (d .target) (tablesWith s t d rows₁ taken₁ n q) n) k rows₂ taken₂ out₂ → getD out₂ 0 0 ≡ 0 → Else P rows₂ taken₂ out₂
+  pub else-parts : (P : IfParts L s l true i x j) (C : Conditioned s t d l (P .cond) rows₁ taken₁ n p q) {k : ℕ} {rows₂ : List (List NamePlace)} {taken₂ out₂ : List ℕ} → Moved s t d (walkHeld (P .block) (d .target) (tablesWith s t d rows₁ taken₁ n q) n) k rows₂ taken₂ out₂ → getD out₂ 0 0 ≡ 0 → Else P rows₂ taken₂ out₂
   else-parts P C {rows₂ = rows₂} {taken₂ = taken₂} {out₂ = out₂} m z = record {
     block = P .rest .0;
     spells = P .rest .1;
@@ -252,7 +245,7 @@ module _ {L : ℕ → Line} (s t : List ℕ) (d : Declared) {l : Location} {i j 
   }
 
 -- an if at row i whose block has passed, so that its else-block is left: `whole` is the walk of the if, q the path after the condition
-pub record ElseLeft (s t : List ℕ) (d : Declared) (l : Location) (i : ℕ) (whole : Statement → Result Walk) (q : Path) (rows : List (List NamePlace)) (taken out : List ℕ) : Type 0 where
+pub record ElseLeft (s t : List ℕ) (d : Declared) (l : Location) (i : ℕ) (whole : Statement → Result Held) (q : Path) (rows : List (List NamePlace)) (taken out : List ℕ) : Type 0 where
   pub ready : Ready s t d rows taken
   pub full : length out ≡ 7
   pub formed : WellFormed s t q

@@ -8,13 +8,13 @@ use Rattle.ast.specs.declared.Location.{Location}
 use Rattle.ast.specs.declared.CompileError.{CompileError}
 use Rattle.ast.specs.Tree.{Block}
 use Rattle.rules.specs.Table.{Table}
-use Rattle.rules.specs.Walk.{Walked as Walk, cross, walk}
 use Rattle.nodes.specs.declared.Answer.the-variants.{Pass, Fault}
 use Rattle.paths.specs.declared.NamePlace.{NamePlace}
 use Rattle.paths.specs.declared.Path.{Path}
 use Rattle.paths.specs.declared.Used.{Used}
 use Rattle.paths.specs.Path.{tableOf}
 use Rattle.declarations.specs.declared.Declared.{Declared}
+use Rattle.tables.specs.Held.{Held, walkHeld, crossHeld}
 use Rattle.tables.specs.State.{pathAt, tablesOf, PathReady, Ready, OnlyFault, Moved}
 use Rattle.statements.specs.Steps.{crossing, tablesWith, InUse, Tried}
 use Rattle.statements.proofs.Walking.{tables-same}
@@ -45,14 +45,14 @@ module _ (s t : List ℕ) (d : Declared) (rows : List (List NamePlace)) (taken :
 module _ (s t : List ℕ) (d : Declared) (n : ℕ) (p : Path) (l : Location) (v : Table) where
   -- the else-block on that path, which is as the rows have it
   module _ (rows : List (List NamePlace)) (taken : List ℕ) (r : Ready s t d rows taken) (load : suc n < d .count → p ≡ pathAt d rows taken (suc n)) (u : Used) (T : Tried s t d (suc n) p (crossing l v n) 0 u) (b : Block) (j : ℕ) where
-    abbrev come : Walk
+    abbrev come : Held
     come = record { tables = tablesOf s t d rows taken; branch = n }
 
-    same-come : cross l v come ≡ crossing l v n (tablesWith s t d rows taken (suc n) p) (suc n)
+    same-come : crossHeld l v come ≡ crossing l v n (tablesWith s t d rows taken (suc n) p) (suc n)
     same-come = rw (tables-same s t d rows taken (suc n) r load)
 
     pub else-stops : {x : CompileError} → u .answer ≡ Fault x → {rows′ : List (List NamePlace)} {taken′ out′ : List ℕ} → OnlyFault x rows′ taken′ out′ → Moved s t d (walkElse b (d .target) l v come) j rows′ taken′ out′
     else-stops a f = moved-refused f (rw (same-come ∙ T .stops _ a rows taken))
 
-    pub else-passes : {m k : ℕ} → u .answer ≡ Pass m → k ≡ suc n → {rows′ : List (List NamePlace)} {taken′ out′ : List ℕ} → Moved s t d (walk b (d .target) (tablesWith s t d rows taken k (u .path)) k) j rows′ taken′ out′ → Moved s t d (walkElse b (d .target) l v come) j rows′ taken′ out′
-    else-passes {m} a e w = moved-as w (ap (λ k. walk b (d .target) (tablesWith s t d rows taken k (u .path)) k) e ∙ sym (rw (same-come ∙ T .passes m a .1 .result rows taken))) refl
+    pub else-passes : {m k : ℕ} → u .answer ≡ Pass m → k ≡ suc n → {rows′ : List (List NamePlace)} {taken′ out′ : List ℕ} → Moved s t d (walkHeld b (d .target) (tablesWith s t d rows taken k (u .path)) k) j rows′ taken′ out′ → Moved s t d (walkElse b (d .target) l v come) j rows′ taken′ out′
+    else-passes {m} a e w = moved-as w (ap (λ k. walkHeld b (d .target) (tablesWith s t d rows taken k (u .path)) k) e ∙ sym (rw (same-come ∙ T .passes m a .1 .result rows taken))) refl

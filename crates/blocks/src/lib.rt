@@ -8,7 +8,7 @@ ghost use Rattle.listing.specs.declared.StatementLine.{StatementLine};
 ghost use Rattle.rows.specs.Rows.{lineIn};
 ghost use Rattle.reader.specs.Spells.{SpellsStatement, SpellsBlock};
 ghost use Rattle.nodes.specs.Stands.{StatementAt, BlockAt};
-ghost use Rattle.rules.specs.Walk.{walkStatement, walk};
+ghost use Rattle.tables.specs.Held.{statementHeld, walkHeld};
 ghost use Rattle.tables.specs.State.{Ready, Moved, branchIn};
 ghost use Rattle.statements.specs.Steps.{InUse, tablesWith};
 use ast::Location;
@@ -42,7 +42,7 @@ pub fn analyze_block(
     out: &mut [u32; 7],
 ) -> [[NamePlace; 32]; 32]
     requires { ⌜ BlockAt (now listing) (now table) i × Ready (now listing) (now table) d rows (now taken) × (length (now out) ≡ 7) × InUse (now listing) (now table) d (branchIn (now out)) path ⌝ }
-    ensures { λ r. ⌜ ((b : Block) (j : ℕ) → SpellsBlock (lineIn (now (table .entry))) (now (listing .entry)) i b j → Moved (now (listing .entry)) (now (table .entry)) d (walk b (d .target) (tablesWith (now (listing .entry)) (now (table .entry)) d rows (now (taken .entry)) (branchIn (now (out .entry))) path) (branchIn (now (out .entry)))) j r (now (taken .exit)) (now (out .exit))) ⌝ }
+    ensures { λ r. ⌜ ((b : Block) (j : ℕ) → SpellsBlock (lineIn (now (table .entry))) (now (listing .entry)) i b j → Moved (now (listing .entry)) (now (table .entry)) d (walkHeld b (d .target) (tablesWith (now (listing .entry)) (now (table .entry)) d rows (now (taken .entry)) (branchIn (now (out .entry))) path) (branchIn (now (out .entry)))) j r (now (taken .exit)) (now (out .exit))) ⌝ }
 {
     let count = block_at(table, i as usize);
     let mut next = i + 1;
@@ -99,7 +99,7 @@ fn analyze_if(
     out: &mut [u32; 7],
 ) -> [[NamePlace; 32]; 32]
     requires { ⌜ StatementAt (now listing) (now table) i × Ready (now listing) (now table) d rows (now taken) × (length (now out) ≡ 7) × InUse (now listing) (now table) d (branchIn (now out)) path × (lineIn (now table) i ≡ Line.Statement (StatementLine.IfStatement loc «has_else»)) ⌝ }
-    ensures { λ r. ⌜ ((x : Statement) (j : ℕ) → SpellsStatement (lineIn (now (table .entry))) (now (listing .entry)) i x j → Moved (now (listing .entry)) (now (table .entry)) d (walkStatement x (d .target) (tablesWith (now (listing .entry)) (now (table .entry)) d rows (now (taken .entry)) (branchIn (now (out .entry))) path) (branchIn (now (out .entry)))) j r (now (taken .exit)) (now (out .exit))) ⌝ }
+    ensures { λ r. ⌜ ((x : Statement) (j : ℕ) → SpellsStatement (lineIn (now (table .entry))) (now (listing .entry)) i x j → Moved (now (listing .entry)) (now (table .entry)) d (statementHeld x (d .target) (tablesWith (now (listing .entry)) (now (table .entry)) d rows (now (taken .entry)) (branchIn (now (out .entry))) path) (branchIn (now (out .entry)))) j r (now (taken .exit)) (now (out .exit))) ⌝ }
 {
     let used = examine_at(listing, table, d, loc, out[BRANCH], i + 1, path);
     let a = used.answer;

@@ -18,7 +18,8 @@ use Rattle.listing.specs.Forms.{Next, found, malformed, ended, nextLine, lexed,
 use Rattle.listing.specs.Kinds.{partOf}
 use Rattle.listing.proofs.Places.{line-good}
 use Rattle.listing.proofs.Parts.{line-part}
-use Rattle.rules.specs.Analyze.{analyze}
+use Rattle.rules.specs.Result.{Result, ok, err}
+use Rattle.rules.specs.Analyze.{Analysis, analyze}
 use Rattle.rows.specs.Rows.{lineIn, withRows}
 use Rattle.rows.specs.Work.{workWords, cleared}
 use Rattle.rows.proofs.Laws.{clear-rows, rows-length}
@@ -31,6 +32,7 @@ use Rattle.reading.specs.Held.{rowsOf, rowsLeft, listingRead, workRead, Spelled
 use Rattle.reader.proofs.Complete.{reads-readable}
 use Rattle.rules.specs.Table.{Table}
 use Rattle.declarations.specs.Items.{ContractAt}
+use Rattle.tables.specs.Held.{heldTables}
 use Rattle.tables.specs.State.{faultIn}
 use Rattle.analyze.specs.Analysis.{analyzed as numbered}
 use Rattle.verdicts.specs.declared.Verdict.{Verdict}
@@ -165,10 +167,12 @@ module _ (s w t : List ℕ) {y : ListingRead} (answered : y ≡ listingRead s (l
         (a, (c ∙ work-read s w t n h enough held, demanded s (length w) r a))
 
 -- the answer that the numbers of an analysis say
-pub numbers-say : (ts : List Table) (out : List ℕ) → verdictIn out ≡ verdict (numbered ts out)
+pub numbers-say : (w : Result Analysis) (ts : List Table) (out : List ℕ) → numbered ts out ≡ heldTables w → verdictIn out ≡ verdict w
 unfolding verdictIn numbered verdict
-numbers-say ts out = go (faultIn out) refl
+numbers-say w ts out e = go w (faultIn out) refl e
   where
-    go : (o : Option CompileError) → faultIn out ≡ o → verdictIn out ≡ verdict (numbered ts out)
-    go none h = rw (h, verdictIn, numbered) refl
-    go (some x) h = rw (h, verdictIn, numbered) refl
+    go : (w : Result Analysis) (o : Option CompileError) → faultIn out ≡ o → numbered ts out ≡ heldTables w → verdictIn out ≡ verdict w
+    go (ok a) none h e = rw (h, verdictIn) refl
+    go (ok a) (some x) h e = let f : _≡_ {A = Result (List Table)} (err x) (ok (a .tables)) = rw (h, numbered) at e in let z : _≡_ {A = ℕ} 0 1 = cc in absurd (omega arith)
+    go (err y) none h e = let f : _≡_ {A = Result (List Table)} (ok ts) (err y) = rw (h, numbered) at e in let z : _≡_ {A = ℕ} 0 1 = cc in absurd (omega arith)
+    go (err y) (some x) h e = let f : _≡_ {A = Result (List Table)} (err x) (err y) = rw (h, numbered) at e in let z : x ≡ y = cc in rw (h, verdictIn) (ap Verdict.Refused z)

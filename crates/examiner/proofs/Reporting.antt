@@ -3,7 +3,7 @@ use Prim.Native.Nat.{ℕ, _+_, _≤_, _<_}
 use native.Mathlib.Omega.{arith}
 use mathlib.Core.Bool.{Bool, true, false}
 use mathlib.Core.List.{List, _++_}
-use mathlib.Core.Path.{_≡_, refl, sym, ap, _∙_}
+use mathlib.Core.Path.{_≡_, refl, sym, ap, ap₂, _∙_, subst}
 use borrow.Author.Tests.{lt-ltb, le-ltb, ltb-false}
 use lib.Dec.{ltb}
 use lib.ListN.{length, take, drop, length-append, length-drop}
@@ -11,39 +11,42 @@ use Rattle.ast.specs.declared.ErrorKind.the-variants.{WorkTooShort}
 use Rattle.ast.specs.declared.CompileError.{CompileError}
 use Rattle.ast.specs.Tree.{Contract, fault, unplaced}
 use Rattle.rules.specs.Result.{Result, ok, err}
-use Rattle.rules.specs.Table.{Table}
-use Rattle.rules.specs.Analyze.{analyze}
+use Rattle.rules.specs.Analyze.{Analysis, analyze}
+use Rattle.rules.proofs.Theorem.{check as checkTree}
+use Rattle.rules.proofs.Demand3.{accepted-finals}
 use Rattle.rows.specs.Rows.{lineIn}
 use Rattle.rows.specs.Work.{workWords, cleared}
 use Rattle.reading.specs.declared.ListingRead.{ListingRead}
 use Rattle.reading.specs.declared.ListingRead.the-variants.{Refused}
-use Rattle.reader.specs.Source.{read}
 use Rattle.reader.specs.Spells.{SpellsContract}
 use Rattle.reading.specs.Held.{listingRead, workRead, Spelled}
 use Rattle.paths.specs.declared.NamePlace.{NamePlace}
 use Rattle.declarations.specs.declared.Declared.{Declared}
+use Rattle.declarations.specs.Items.{ContractAt, DeclaredAs}
+use Rattle.tables.specs.Held.{heldTables}
 use Rattle.tables.specs.State.{tablesOf, Ready}
 use Rattle.analyze.specs.Analysis.{Analyzed}
 use Rattle.analyze.proofs.Determined.{zero-out, tables-are}
 use Rattle.reporting.specs.Text.{fields, reportLine, acceptance, refusal, textOf}
+use Rattle.reporting.specs.Waits.{RowsBetween, analysisIn}
+use Rattle.reporting.proofs.Spelled.{waits-spelled}
 use Rattle.verdicts.specs.declared.Reported.{Reported}
 use Rattle.verdicts.specs.declared.Verdict.{Verdict}
 use Rattle.verdicts.specs.Verdicts.{verdict, verdictIn}
+use Rattle.verdicts.specs.Reports.{reported, written}
 use Rattle.examiner.specs.Check.{examine, check}
-use Rattle.verdicts.specs.Reports.{reported}
 use Rattle.examiner.specs.Report.{reportText, report, opening}
-use Rattle.verdicts.specs.Reports.{written}
 use Rattle.examiner.specs.Lent.{workAfter, outputAfter}
-use Rattle.examiner.proofs.Demand3.{refused≢accepted, examined}
+use Rattle.examiner.proofs.Demand3.{refused≢accepted, verdict-accepts, examined}
 use Rattle.examiner.proofs.Checking.{check-refused, work-refused, work-read, numbers-say}
 
 -- what Report promises of its answer r, of work at exit t and of output at exit o
 abbrev pub Promised : List ℕ → List ℕ → List ℕ → Reported → List ℕ → List ℕ → Type 0
 Promised s w out r t o = (r ≡ report s (length w) (length out)) × ((t ≡ workAfter w) × ((o ≡ outputAfter s (length w) out) × ((r .length ≡ 0 → ⊥) → take 2 o ≡ opening (check s (length w)))))
 
-text-opens : (w : Result (List Table)) (rest : List ℕ) → take 2 (textOf w ++ rest) ≡ opening (verdict w)
+text-opens : (w : Result Analysis) (rest : List ℕ) → take 2 (textOf w ++ rest) ≡ opening (verdict w)
 unfolding textOf acceptance refusal reportLine fields verdict opening
-text-opens (ok ts) rest = refl
+text-opens (ok a) rest = refl
 text-opens (err x) rest = refl
 
 module _ (s w out : List ℕ) where
@@ -71,7 +74,7 @@ module _ (s w out : List ℕ) where
       (a, (rw (p, workAfter) refl, (o, opens r out a o)))
 
   -- what was found is reported
-  module _ (enough : workWords ≤ length w) (x : Result (List Table)) (found : examine s (length w) ≡ x) where
+  module _ (enough : workWords ≤ length w) (x : Result Analysis) (found : examine s (length w) ≡ x) where
     pub reports : (r : Reported) (t o : List ℕ) → t ≡ workAfter w → r ≡ reported x (length out) → o ≡ written (textOf x) out → Promised s w out r t o
     unfolding report outputAfter reportText
     reports r t o e f g =
@@ -81,9 +84,9 @@ module _ (s w out : List ℕ) where
         (a, (e, (b, opens r o a b)))
 
 -- an answer says what was found
-pub verdict-refused : (w : Result (List Table)) (x : CompileError) → Verdict.Refused x ≡ verdict w → w ≡ err x
+pub verdict-refused : (w : Result Analysis) (x : CompileError) → Verdict.Refused x ≡ verdict w → w ≡ err x
 unfolding verdict
-verdict-refused (ok ts) x h = absurd (refused≢accepted h)
+verdict-refused (ok a) x h = absurd (refused≢accepted h)
 verdict-refused (err y) x h = let e : y ≡ x = cc in ap err e
 
 module _ (s w t out : List ℕ) {y : ListingRead} (enough : workWords ≤ length w) (answered : y ≡ listingRead s (length w)) (held : t ≡ workRead s w) where
@@ -101,17 +104,32 @@ module _ (s w t out : List ℕ) {y : ListingRead} (enough : workWords ≤ length
       reports s w out enough (analyze (h .contract)) (examined s (length w) (h .contract) enough (h .source, h .reads)) r u o (e ∙ work-read s w t n h enough held) (f (h .contract) (h .spells)) (g (h .contract) (h .spells))
 
 -- what an analysis found, by the answer that its numbers say
-module _ {s t : List ℕ} {d : Declared} {rows : List (List NamePlace)} {taken out : List ℕ} {w : Result (List Table)} (a : Analyzed s t d w rows taken out) {c : Verdict} (says : c ≡ verdictIn out) where
-  pub found-fault : (x : CompileError) → c ≡ Verdict.Refused x → err x ≡ w
-  found-fault x e = sym (verdict-refused w x (sym e ∙ says ∙ numbers-say (tablesOf s t d rows taken) out ∙ ap verdict (a .result)))
+module _ {s t : List ℕ} {d : Declared} {rows : List (List NamePlace)} {taken out : List ℕ} (w : Result Analysis) (a : Analyzed s t d (heldTables w) rows taken out) {c : Verdict} (says : c ≡ verdictIn out) where
+  found : c ≡ verdict w
+  found = says ∙ numbers-say w (tablesOf s t d rows taken) out (a .result)
 
-  pub found-tables : c ≡ Verdict.Accepted → Ready s t d rows taken × (ok (tablesOf s t d rows taken) ≡ w)
+  pub found-fault : (x : CompileError) → c ≡ Verdict.Refused x → err x ≡ w
+  found-fault x e = sym (verdict-refused w x (sym e ∙ found))
+
+  pub found-ready : c ≡ Verdict.Accepted → Ready s t d rows taken
   unfolding verdict
-  found-tables e = go w a (sym e ∙ says ∙ numbers-say (tablesOf s t d rows taken) out ∙ ap verdict (a .result))
+  found-ready e = go w a (sym e ∙ found)
     where
-      go : (w : Result (List Table)) → Analyzed s t d w rows taken out → Verdict.Accepted ≡ verdict w → Ready s t d rows taken × (ok (tablesOf s t d rows taken) ≡ w)
-      go (ok ts) a h = (a .ready (zero-out a), ap ok (tables-are a))
+      go : (w : Result Analysis) → Analyzed s t d (heldTables w) rows taken out → Verdict.Accepted ≡ verdict w → Ready s t d rows taken
+      go (ok f) a h = a .ready (zero-out a)
       go (err x) a h = absurd (refused≢accepted (sym h))
+
+-- of an accepted contract: the tables as they are held, the waits as they stand in its rows
+pub found-analysis : {s t : List ℕ} {d : Declared} {rows : List (List NamePlace)} {taken out : List ℕ} (x : Contract) {n : ℕ} → DeclaredAs s t d x n → Analyzed s t d (heldTables (analyze x)) rows taken out → {c : Verdict} → c ≡ verdictIn out → c ≡ Verdict.Accepted → ok (analysisIn s t n d rows taken) ≡ analyze x
+unfolding verdict checkTree
+found-analysis {s} {t} {d} {rows} {taken} {out} x {n} D a says e =
+    let accepted = accepted-finals x (verdict-accepts (analyze x) .0 (sym (found (analyze x) a says) ∙ e)) in
+    let tables = tables-are (subst (λ w. Analyzed s t d (heldTables w) rows taken out) accepted a) in
+    ap₂ (λ ts ws. ok (record { tables = ts; waits = ws })) tables (waits-spelled t (D .block) .1) ∙ sym accepted
+
+-- the rows of its block can be read
+pub block-rows : {s t : List ℕ} {d : Declared} {n : ℕ} (C : ContractAt s t n) → DeclaredAs s t d (C .contract) n → RowsBetween t (d .block) n
+block-rows {t = t} C D = (waits-spelled t (D .block) .0, C .rows .room, C .rows .few)
 
 -- a text that is handed back fits
 pub report-fits : (s : List ℕ) (words room : ℕ) → report s words room .length ≤ room

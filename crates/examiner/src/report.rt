@@ -40,7 +40,7 @@ fn report_table(listing: &[u8], table: &[u32], n: usize, d: Declared, output: &m
     let answer = verdict_in(&out);
     match answer {
         Verdict::Refused(x) => report_refusal(output, x),
-        Verdict::Accepted => report_acceptance(listing, table, d, held, &taken, output),
+        Verdict::Accepted => report_acceptance(listing, table, n, d, held, &taken, output),
     }
 }
 

@@ -209,7 +209,7 @@ pub fn store_wait(listing: &[u8], at: usize, work: &mut [u32], i: usize, w: Loca
     requires { ⌜ HasRow (now work) i ⌝ }
     ensures { λ n. ⌜ Stores (formAt (Line.Statement <$> both (choice locktimeOps) signed (StatementLine.LocktimeStatement w)) (now (listing .entry)) at) i (now (work .entry)) (now (work .exit)) n ⌝ }
 {
-    let WordRead::Got(op, n1) = read_index(listing, at, 2) else {
+    let WordRead::Got(op, n1) = read_index(listing, at, 3) else {
         return 0;
     };
     let SignedRead::Got(v, n) = read_signed(listing, n1) else {

@@ -4,15 +4,13 @@ ghost use Prim.Native.Nat.{ℕ};
 ghost use Rattle.ast.specs.Tree.{Expression};
 ghost use Rattle.rows.specs.Rows.{lineIn};
 ghost use Rattle.reader.specs.Spells.{SpellsExpression};
-ghost use Rattle.rules.specs.Limits.{or21, upTo, wait, security};
+ghost use Rattle.rules.specs.Limits.{or21, security};
 ghost use Rattle.nodes.specs.Stands.{walked, ExpressionAt};
 ghost use Rattle.limits.specs.Lines.{overflow, PartWithin};
 use ast::Checked;
 use ast::CompileError;
 use ast::ErrorKind;
 use ast::Location;
-use ast::LocktimeOp;
-use ast::Signed;
 use listing::ExpressionLine;
 use nodes::Answer;
 use nodes::expression_at;
@@ -20,17 +18,13 @@ use nodes::operand_count;
 use nodes::skip_factor;
 
 pub mod literals; // literals.rt: the length of a literal
+pub mod waits; // waits.rt: the bounds of a wait, and the number that the script carries
 
 // The largest number of four bytes, on either side of zero.
 const MAX_NUMBER: u64 = 2147483647;
 
 // The longest literal, in bytes.
 const MAX_ELEMENT: usize = 520;
-
-// The longest wait of `older` and of `after`.
-const MAX_OLDER: u64 = 65535;
-
-const MAX_AFTER: u64 = 4294967295;
 
 // A bound that is kept, or else 21.
 fn bounded(loc: Location, kept: bool) -> Checked
@@ -64,26 +58,6 @@ pub fn check_overflow(listing: &[u8], e: ExpressionLine) -> Checked
         ExpressionLine::UnaryCryptoExpression(_, _) => Checked::Ok,
         ExpressionLine::ByteExpression(_) => Checked::Ok,
         ExpressionLine::CheckSigExpression(_) => Checked::Ok,
-    }
-}
-
-// From 0 to a bound.
-fn up_to(high: u64, v: Signed) -> bool
-    ensures { λ r. ⌜ r ≡ upTo high v ⌝ }
-{
-    if v.negative {
-        return v.magnitude == 0;
-    }
-    v.magnitude <= high
-}
-
-// A wait within its bounds, else 21 at the wait.
-pub fn check_wait(loc: Location, op: LocktimeOp, v: Signed) -> Checked
-    ensures { λ r. ⌜ r ≡ wait loc op v ⌝ }
-{
-    match op {
-        LocktimeOp::Cltv => bounded(loc, up_to(MAX_AFTER, v)),
-        LocktimeOp::Csv => bounded(loc, up_to(MAX_OLDER, v)),
     }
 }
 

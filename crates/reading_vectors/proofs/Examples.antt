@@ -95,7 +95,7 @@ forms =
     record { kind = item; letter = "P"; fields = w (below "4" ∷ name ∷ []); after = "B,0\n"; lines = 4 } ∷
     record { kind = block; letter = "B"; fields = word ∷ []; after = ""; lines = 2 } ∷
     record { kind = statement; letter = "I"; fields = w (below "2" ∷ []); after = "b,1,1,1,1,1\nB,0\n"; lines = 5 } ∷
-    record { kind = statement; letter = "L"; fields = w (below "2" ∷ signed ∷ []); after = ""; lines = 3 } ∷
+    record { kind = statement; letter = "L"; fields = w (below "3" ∷ signed ∷ []); after = ""; lines = 3 } ∷
     record { kind = statement; letter = "V"; fields = w []; after = "b,1,1,1,1,1\n"; lines = 4 } ∷
     record { kind = statement; letter = "E"; fields = w []; after = "b,1,1,1,1,1\n"; lines = 4 } ∷
     record { kind = expression; letter = "v"; fields = w (name ∷ []); after = ""; lines = 4 } ∷

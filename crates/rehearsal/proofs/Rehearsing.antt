@@ -14,7 +14,7 @@ use Rattle.ast.specs.Tree.{Name, StackParam, Declaration, Contract, fromTop}
 use Rattle.rules.specs.Result.{Result, ok, err, answer}
 use Rattle.rules.specs.Paths.{Path, paths}
 use Rattle.rules.specs.Table.{Table, params}
-use Rattle.rules.specs.Analyze.{analyze}
+use Rattle.rules.specs.Analyze.{Analysis, analyze}
 use Rattle.rules.specs.Stack.{meets, declarationOf}
 use Rattle.rules.proofs.Takers.{final, finalAll, finals}
 use Rattle.rules.proofs.Theorem.{check as checkTree}
@@ -120,9 +120,9 @@ module _ (c : Contract) (r : Rehearsal) (f : List StackParam → Rehearsed) {a :
   unfolding turnBy first onTables verdict answer checkTree
   on-analyzed = go (analyze c) refl
     where
-      go : (w : Result (List Table)) → analyze c ≡ w → turnBy (tests (verdict (analyze c)) (length (c .declarations)) r) a ≡ onTables (r .path) f (analyze c)
+      go : (w : Result Analysis) → analyze c ≡ w → turnBy (tests (verdict (analyze c)) (length (c .declarations)) r) a ≡ onTables (r .path) f (analyze c)
       go (err x) e = rw e
-      go (ok ts) e =
+      go (ok x) e =
           let h : checkTree c ≡ Ok = ap answer e in
           ap (λ w. turnBy (tests (verdict w) (length (c .declarations)) r) a) e ∙ on-accepted h ∙ sym (ap (onTables (r .path) f) (accepted-finals c h))
 

@@ -11,6 +11,7 @@ use Rattle.ast.specs.declared.ErrorKind.the-variants.{WorkTooShort}
 use Rattle.ast.specs.Tree.{StackParam, unplaced, fault}
 use Rattle.rules.specs.Result.{ok}
 use Rattle.rules.specs.Table.{Table, params}
+use Rattle.rules.specs.Analyze.{Analysis}
 use Rattle.rows.specs.Work.{workWords}
 use Rattle.examiner.specs.Check.{examine}
 use Rattle.turns.specs.declared.Rehearsal.{Rehearsal}
@@ -24,12 +25,12 @@ use Rattle.rehearsal.specs.Plain.{Ask, lay, takeBack, Step, next, begins
 use Rattle.rehearsal.specs.Calls.{Call, answerTo, kept, answers, saidBy, called, sayings, standing}
 use Rattle.rehearsal.specs.Theorem.{Agrees, EndsExactly, CanEnd}
 use Rattle.rehearsal.proofs.Machine.{Stands, Alike, shown-alike, lay-alike, back-alike, ends, lay-all}
-use Rattle.rehearsal.proofs.Tables.{OnTable, opens-on, lines-are, named, short, same-tables, enough}
+use Rattle.rehearsal.proofs.Tables.{OnTable, opens-on, lines-are, named, short, same-found, enough}
 
 -- an operation on a path that is there, with work enough
-on-path : (s : List ℕ) (words path : ℕ) (ts : List Table) (t : Table) (f : List StackParam → Rehearsed) → examine s words ≡ ok ts → getElem? ts path ≡ some t → onPath s words path f ≡ f (params t)
+on-path : (s : List ℕ) (words path : ℕ) (a : Analysis) (t : Table) (f : List StackParam → Rehearsed) → examine s words ≡ ok a → getElem? (a .tables) path ≡ some t → onPath s words path f ≡ f (params t)
 unfolding onPath onTables onTable
-on-path s words path ts t f e k = ap (onTables path f) e ∙ ap (onTable f) k
+on-path s words path a t f e k = ap (onTables path f) e ∙ ap (onTable f) k
 
 -- any operation with too little work
 too-short : (s : List ℕ) (w : ℕ) (r : Rehearsal) (a : Ask) → ltb w workWords ≡ true → answerTo s w r a ≡ Refused (fault WorkTooShort unplaced)
@@ -52,12 +53,12 @@ module _ (s : List ℕ) (words path : ℕ) (o : OnTable s words path) where
   unfolding opened begins
   opened-alike r =
       let z : beginning s ≡ beginning s + 0 = omega arith in
-      subst (λ a. Goes r a (move lines [])) (sym (on-path s words path (o .tables) (o .table) (shown s (onward path (beginning s))) (o .examined) (o .stands) ∙ ap (λ n. shown s (onward path n) (params (o .table))) z)) (shown-alike s path (params (o .table)) (beginning s) (named s words path o) r [] refl)
+      subst (λ a. Goes r a (move lines [])) (sym (on-path s words path (o .found) (o .table) (shown s (onward path (beginning s))) (o .examined) (o .stands) ∙ ap (λ n. shown s (onward path n) (params (o .table))) z)) (shown-alike s path (params (o .table)) (beginning s) (named s words path o) r [] refl)
 
-  asked-alike : (w : ℕ) (xs : List WitnessItem) (a : Ask) → examine s w ≡ ok (o .tables) → begins xs lines ≡ true → Goes (counted xs) (answerTo s w (counted xs) a) (asked lines xs a)
+  asked-alike : (w : ℕ) (xs : List WitnessItem) (a : Ask) → examine s w ≡ ok (o .found) → begins xs lines ≡ true → Goes (counted xs) (answerTo s w (counted xs) a) (asked lines xs a)
   unfolding answerTo laid takenBack
-  asked-alike w xs (lay x) e h = subst (λ a. Goes (counted xs) a (asked lines xs (lay x))) (sym (on-path s w path (o .tables) (o .table) (layOn s (counted xs) x) e (o .stands))) (lay-alike s path (params (o .table)) (beginning s) (named s words path o) xs x h)
-  asked-alike w xs takeBack e h = subst (λ a. Goes (counted xs) a (asked lines xs takeBack)) (sym (on-path s w path (o .tables) (o .table) (shown s (onward path (lowered (beginning s) (beginning s + length xs)))) e (o .stands))) (back-alike s path (params (o .table)) (beginning s) (named s words path o) xs h)
+  asked-alike w xs (lay x) e h = subst (λ a. Goes (counted xs) a (asked lines xs (lay x))) (sym (on-path s w path (o .found) (o .table) (layOn s (counted xs) x) e (o .stands))) (lay-alike s path (params (o .table)) (beginning s) (named s words path o) xs x h)
+  asked-alike w xs takeBack e h = subst (λ a. Goes (counted xs) a (asked lines xs takeBack)) (sym (on-path s w path (o .found) (o .table) (shown s (onward path (lowered (beginning s) (beginning s + length xs)))) e (o .stands))) (back-alike s path (params (o .table)) (beginning s) (named s words path o) xs h)
 
   refused-alike : (w : ℕ) (xs : List WitnessItem) (a : Ask) → ltb w workWords ≡ true → begins xs lines ≡ true → Goes (counted xs) (answerTo s w (counted xs) a) (stay xs (fault WorkTooShort unplaced))
   unfolding kept saidBy
@@ -70,7 +71,7 @@ module _ (s : List ℕ) (words path : ℕ) (o : OnTable s words path) where
     where
       go : (b : Bool) → ltb (c .words) workWords ≡ b → Goes (counted xs) (answerTo s (c .words) (counted xs) (c .ask)) (called lines xs c)
       go true e = rw (e, called) (refused-alike (c .words) xs (c .ask) e h)
-      go false e = rw (e, called) (asked-alike (c .words) xs (c .ask) (same-tables s words (c .words) (o .tables) (o .examined) e) h)
+      go false e = rw (e, called) (asked-alike (c .words) xs (c .ask) (same-found s words (c .words) (o .found) (o .examined) e) h)
 
   -- any number of calls
   calls-agree : (cs : List Call) (r : Rehearsal) (xs : List WitnessItem) → Stands path (beginning s) lines r xs → map (saidBy s) (answers s r cs) ≡ sayings lines xs cs
@@ -100,4 +101,4 @@ ends-exactly s words path r calls h =
 pub can-end : CanEnd
 can-end s words path r h =
     let o = opens-on s words path h in
-    ends-exactly s words path r _ h .1 (lay-all words (enough s words (o .tables) (o .examined)) [] (reportLines s words path))
+    ends-exactly s words path r _ h .1 (lay-all words (enough s words (o .found) (o .examined)) [] (reportLines s words path))

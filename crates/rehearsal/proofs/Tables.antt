@@ -14,6 +14,7 @@ use Rattle.text.specs.Text.{part}
 use Rattle.rules.specs.Result.{Result, ok, err}
 use Rattle.rules.specs.Paths.{Path, paths}
 use Rattle.rules.specs.Table.{Table, params}
+use Rattle.rules.specs.Analyze.{Analysis}
 use Rattle.rules.specs.Stack.{Met, meets, declarationOf}
 use Rattle.rules.proofs.Basics.{err≢ok, ok-ok}
 use Rattle.rules.proofs.Takers.{final, finalAll, finals}
@@ -24,7 +25,7 @@ use Rattle.examiner.specs.Check.{analyzed, examine, check}
 use Rattle.reporting.specs.Text.{itemOf}
 use Rattle.examiner.specs.Name.{itemAt, ifAccepted, nameOf, placeOr, name, nameBytes}
 use Rattle.examiner.specs.InOrder.{Accepted}
-use Rattle.examiner.proofs.Demand3.{Holds, accepts, accepted-tables}
+use Rattle.examiner.proofs.Demand3.{Holds, accepts, accepted-outcome}
 use Rattle.examiner.proofs.Naming.{declaredName, accepted-name}
 use Rattle.turns.specs.declared.Rehearsed.the-variants.{Refused}
 use Rattle.rehearsal.specs.Items.{tablesOf, reportLines}
@@ -61,39 +62,39 @@ finals-at (d ∷ ds) (p ∷ ps) (suc n) t h = let r = finals-at ds ps n t h in (
 -- ---- a path that a rehearsal opens on
 
 pub record OnTable (s : List ℕ) (words path : ℕ) : Type 0 where
-  pub tables : List Table
+  pub found : Analysis
   pub table : Table
-  pub examined : examine s words ≡ ok tables
-  pub stands : getElem? tables path ≡ some table
+  pub examined : examine s words ≡ ok found
+  pub stands : getElem? (found .tables) path ≡ some table
 
 pub opens-on : (s : List ℕ) (words path : ℕ) → Opens s words path → OnTable s words path
 unfolding opened onPath onTables onTable
 opens-on s words path h = go (examine s words) refl
   where
-    at : (ts : List Table) → examine s words ≡ ok ts → (o : Option Table) → getElem? ts path ≡ o → OnTable s words path
-    at ts e none k = let q : opened s words path ≡ Refused noSuchPath = rw (e, opened, onPath, onTables) (rw (k, onTable) refl) in absurd (subst Goes q h)
-    at ts e (some t) k = record { tables = ts; table = t; examined = e; stands = k }
+    at : (f : Analysis) → examine s words ≡ ok f → (o : Option Table) → getElem? (f .tables) path ≡ o → OnTable s words path
+    at f e none k = let q : opened s words path ≡ Refused noSuchPath = rw (e, opened, onPath, onTables) (rw (k, onTable) refl) in absurd (subst Goes q h)
+    at f e (some t) k = record { found = f; table = t; examined = e; stands = k }
 
-    go : (w : Result (List Table)) → examine s words ≡ w → OnTable s words path
+    go : (w : Result Analysis) → examine s words ≡ w → OnTable s words path
     go (err x) e = let q : opened s words path ≡ Refused x = rw (e, opened, onPath, onTables) refl in absurd (subst Goes q h)
-    go (ok ts) e = at ts e (getElem? ts path) refl
+    go (ok f) e = at f e (getElem? (f .tables) path) refl
 
-pub accepted-by : (s : List ℕ) (words : ℕ) (ts : List Table) → examine s words ≡ ok ts → Accepted s words
+pub accepted-by : (s : List ℕ) (words : ℕ) (f : Analysis) → examine s words ≡ ok f → Accepted s words
 unfolding check verdict
-accepted-by s words ts e = ap verdict e
+accepted-by s words f e = ap verdict e
 
 module _ (s : List ℕ) (words path : ℕ) (o : OnTable s words path) where
   pub accepted : Accepted s words
-  accepted = accepted-by s words (o .tables) (o .examined)
+  accepted = accepted-by s words (o .found) (o .examined)
 
   -- its report lines are the table's
   pub lines-are : reportLines s words path ≡ drop (beginning s) (map itemOf (params (o .table)))
   unfolding reportLines tablesOf
-  lines-are = ap (λ w. drop (beginning s) (map itemOf (params (getD (tablesOf w) path [])))) (o .examined) ∙ ap (λ t. drop (beginning s) (map itemOf (params t))) (at-getD (o .tables) path [] (o .table) (o .stands))
+  lines-are = ap (λ w. drop (beginning s) (map itemOf (params (getD (tablesOf w) path [])))) (o .examined) ∙ ap (λ t. drop (beginning s) (map itemOf (params t))) (at-getD (o .found .tables) path [] (o .table) (o .stands))
 
   module _ (c : Contract) (k : Holds s c) where
     stands-final : getElem? (finals c) path ≡ some (o .table)
-    stands-final = ap (λ ts. getElem? ts path) (ok-ok (sym (accepted-tables s words c k accepted) ∙ o .examined)) ∙ o .stands
+    stands-final = ap (λ f. getElem? (f .tables) path) (ok-ok (sym (accepted-outcome s words c k accepted) ∙ o .examined)) ∙ o .stands
 
     -- its items are those that the path's declaration declares, from the top
     pub items-are : params (o .table) ≡ fromTop (declarationOf c path)
@@ -132,17 +133,17 @@ pub short : (s : List ℕ) (words : ℕ) → ltb words workWords ≡ true → ex
 unfolding examine
 short s words h = rw (h, examine) refl
 
--- any other work: the same tables
-pub same-tables : (s : List ℕ) (words w : ℕ) (ts : List Table) → examine s words ≡ ok ts → ltb w workWords ≡ false → examine s w ≡ ok ts
+-- any other work: the same is found
+pub same-found : (s : List ℕ) (words w : ℕ) (f : Analysis) → examine s words ≡ ok f → ltb w workWords ≡ false → examine s w ≡ ok f
 unfolding examine
-same-tables s words w ts e h = rw (h, examine) (go (ltb words workWords) refl)
+same-found s words w f e h = rw (h, examine) (go (ltb words workWords) refl)
   where
-    go : (b : Bool) → ltb words workWords ≡ b → analyzed (readListing s) ≡ ok ts
+    go : (b : Bool) → ltb words workWords ≡ b → analyzed (readListing s) ≡ ok f
     go true q = absurd (err≢ok (rw (q, examine) at e))
     go false q = rw (q, examine) at e
 
-pub enough : (s : List ℕ) (words : ℕ) (ts : List Table) → examine s words ≡ ok ts → ltb words workWords ≡ false
-enough s words ts e = go (ltb words workWords) refl
+pub enough : (s : List ℕ) (words : ℕ) (f : Analysis) → examine s words ≡ ok f → ltb words workWords ≡ false
+enough s words f e = go (ltb words workWords) refl
   where
     go : (b : Bool) → ltb words workWords ≡ b → ltb words workWords ≡ false
     go true q = absurd (err≢ok (sym (short s words q) ∙ e))

@@ -7,6 +7,7 @@ use lib.ListN.{getElem?}
 use Rattle.ast.specs.Tree.{StackParam}
 use Rattle.rules.specs.Result.{Result, ok, err}
 use Rattle.rules.specs.Table.{Table, params}
+use Rattle.rules.specs.Analyze.{Analysis}
 use Rattle.reporting.specs.Text.{WitnessItem, itemOf}
 use Rattle.examiner.specs.Check.{examine}
 use Rattle.examiner.specs.Name.{itemAt, nameOf, placeOr}
@@ -30,9 +31,9 @@ onTable f none = Refused noSuchPath
 onTable f (some t) = f (params t)
 
 -- the tests of every operation: Check's answer, then 31
-unfoldable pub onTables : ℕ → (List StackParam → Rehearsed) → Result (List Table) → Rehearsed
+unfoldable pub onTables : ℕ → (List StackParam → Rehearsed) → Result Analysis → Rehearsed
 onTables path f (err x) = Refused x
-onTables path f (ok ts) = onTable f (getElem? ts path)
+onTables path f (ok a) = onTable f (getElem? (a .tables) path)
 
 unfoldable pub onPath : List ℕ → ℕ → ℕ → (List StackParam → Rehearsed) → Rehearsed
 onPath s words path f = onTables path f (examine s words)

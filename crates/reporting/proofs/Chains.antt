@@ -15,15 +15,16 @@ use Rattle.rows.specs.Rows.{lineIn}
 use Rattle.names.specs.declared.Item.{Item}
 use Rattle.names.specs.Items.{Inside, NamedRow, lineOf, itemOf, itemIn}
 use Rattle.rules.specs.Table.{Table}
+use Rattle.rules.specs.Analyze.{Analysis}
 use Rattle.paths.specs.declared.NamePlace.{NamePlace}
 use Rattle.paths.specs.declared.Path.{Path}
 use Rattle.paths.specs.Path.{takenBy, tableFrom, tableOf, WellFormed}
 use Rattle.output.specs.Decimal.{decimal}
 use Rattle.output.specs.Put.{Room, Wrote}
 use Rattle.output.proofs.Laws.{room-as, wrote-as}
-use Rattle.reporting.specs.Bounds.{pair, pairBound, refusalBound, nameBound, itemBound, itemsBound, pathBound, pathsBound, acceptanceBound}
+use Rattle.reporting.specs.Bounds.{pair, pairBound, headLine, headBound, refusalBound, nameBound, itemBound, itemsBound, pathBound, waitBound}
 use Rattle.reader.specs.Ceilings.{maxBytes}
-use Rattle.reporting.specs.Text.{fields, reportLine, taker, itemLine, itemLines, pathLine, pathLines, acceptance, refusal}
+use Rattle.reporting.specs.Text.{fields, reportLine, taker, itemLine, itemLines, pathLine, pathLines, waitLine, waitLines, acceptance, refusal}
 use Rattle.reporting.specs.Taker.{tookOf, lineIf}
 use Rattle.reporting.proofs.Items.{taker-fields}
 
@@ -109,12 +110,25 @@ pub table-length : {s t : List ℕ} {p : Path} → WellFormed s t p → p .count
 unfolding tableOf
 table-length {s} {t} {p} w = let few = w .few in let full = w .full in sym (table-full s t (p .places) (p .taken) (p .count) (omega arith))
 
--- the first line of an acceptance, and the paths
-pub acceptance-run : (n : ℕ) (ts : List Table) → n ≡ length ts → (65 ∷ 44 ∷ []) ++ (decimal n ++ ((10 ∷ []) ++ pathLines 0 ts)) ≡ acceptance ts
-unfolding acceptance reportLine fields
-acceptance-run n ts e =
-    ap (λ n. 65 ∷ 44 ∷ (decimal n ++ (10 ∷ pathLines 0 ts))) e
-    ∙ ap (λ (l : List ℕ). 65 ∷ 44 ∷ l) (sym (append-assoc (decimal (length ts)) (10 ∷ []) (pathLines 0 ts)))
+-- the first line of an acceptance, as fields; and what follows it
+pub head-run : (n : ℕ) → (65 ∷ 44 ∷ []) ++ (decimal n ++ (10 ∷ [])) ≡ headLine n
+unfolding reportLine fields
+head-run n = refl
 
-pub acceptance-room : {w : Bool} {out : List ℕ} {at : ℕ} (n : ℕ) (ts : List Table) → n ≡ length ts → Room w out at (acceptance ts) acceptanceBound → Room w out at ((65 ∷ 44 ∷ []) ++ (decimal n ++ ((10 ∷ []) ++ pathLines 0 ts))) (2 + (10 + (1 + pathsBound)))
-acceptance-room n ts e room = room-as (sym (acceptance-run n ts e)) (omega arith) room
+pub head-room : {w : Bool} {out : List ℕ} {at : ℕ} (n : ℕ) → Room w out at (headLine n) headBound → Room w out at ((65 ∷ 44 ∷ []) ++ (decimal n ++ (10 ∷ []))) (2 + (10 + 1))
+head-room n room = room-as (sym (head-run n)) (omega arith) room
+
+abbrev pub pathsAndWaits : Analysis → List ℕ
+pathsAndWaits a = pathLines 0 (a .tables) ++ waitLines (a .waits)
+
+pub acceptance-run : (n : ℕ) (a : Analysis) → n ≡ length (a .tables) → headLine n ++ pathsAndWaits a ≡ acceptance a
+unfolding acceptance
+acceptance-run n a e = ap (λ n. headLine n ++ pathsAndWaits a) e
+
+-- the line of a wait, as fields
+pub wait-run : (line number : ℕ) → (87 ∷ []) ++ (pair line number ++ (10 ∷ [])) ≡ waitLine (record { line = line; number = number })
+unfolding waitLine reportLine fields
+wait-run line number = ap (λ (l : List ℕ). 87 ∷ l) (after-pair line number (10 ∷ []))
+
+pub wait-room : {w : Bool} {out : List ℕ} {at : ℕ} (line number : ℕ) → Room w out at (waitLine (record { line = line; number = number })) waitBound → Room w out at ((87 ∷ []) ++ (pair line number ++ (10 ∷ []))) (1 + (pairBound + 1))
+wait-room line number room = room-as (sym (wait-run line number)) (omega arith) room

@@ -1,7 +1,8 @@
 -- How long the texts of a report can be, so that a position in one can be counted.
 use Prim.Native.Nat.{ℕ}
-use mathlib.Core.List.{List, _∷_, _++_}
+use mathlib.Core.List.{List, [], _∷_, _++_}
 use Rattle.output.specs.Decimal.{decimal}
+use Rattle.reporting.specs.Text.{reportLine}
 
 -- two fields with numbers
 abbrev pub pair : ℕ → ℕ → List ℕ
@@ -34,6 +35,21 @@ pathBound = 1050104
 abbrev pub pathsBound : ℕ
 pathsBound = 33603328
 
--- A, a number and the paths
+-- W and two fields
+abbrev pub waitBound : ℕ
+waitBound = 24
+
+-- 1024 waits
+abbrev pub waitsBound : ℕ
+waitsBound = 24576
+
+-- A and a number
+abbrev pub headLine : ℕ → List ℕ
+headLine n = reportLine 65 (decimal n ∷ [])
+
+abbrev pub headBound : ℕ
+headBound = 13
+
+-- A, a number, the paths and the waits
 abbrev pub acceptanceBound : ℕ
-acceptanceBound = 33603341
+acceptanceBound = 33627917

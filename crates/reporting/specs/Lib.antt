@@ -1,3 +1,4 @@
 pub mod Text
 pub mod Bounds
 pub mod Taker
+pub mod Waits

@@ -8,6 +8,8 @@ use Rattle.ast.specs.Tree.{Name, StackParam, number}
 use Rattle.ast.specs.Numbers.{typeNumber}
 use Rattle.rules.specs.Result.{Result, ok, err}
 use Rattle.rules.specs.Table.{Entry, Table}
+use Rattle.rules.specs.Walk.{Wait}
+use Rattle.rules.specs.Analyze.{Analysis}
 use Rattle.output.specs.Decimal.{decimal}
 
 -- fields parted by commas, and byte 10
@@ -50,15 +52,24 @@ unfoldable pub pathLines : ℕ → List Table → List ℕ
 pathLines n [] = []
 pathLines n (t ∷ ts) = pathLine n t ++ pathLines (suc n) ts
 
--- A,paths and each path
-unfoldable pub acceptance : List Table → List ℕ
-acceptance ts = reportLine 65 (decimal (length ts) ∷ []) ++ pathLines 0 ts
+-- W,listing line,number that the script carries
+unfoldable pub waitLine : Wait → List ℕ
+waitLine w = reportLine 87 (decimal (w .line) ∷ decimal (w .number) ∷ [])
+
+-- wait by wait, in listing order
+unfoldable pub waitLines : List Wait → List ℕ
+waitLines [] = []
+waitLines (w ∷ ws) = waitLine w ++ waitLines ws
+
+-- A,paths, each path, and after the last one each wait
+unfoldable pub acceptance : Analysis → List ℕ
+acceptance a = reportLine 65 (decimal (length (a .tables)) ∷ []) ++ (pathLines 0 (a .tables) ++ waitLines (a .waits))
 
 -- R,number,start,end,line,column
 unfoldable pub refusal : CompileError → List ℕ
 refusal x = reportLine 82 (decimal (number (x .kind)) ∷ decimal (x .loc .start) ∷ decimal (x .loc .end) ∷ decimal (x .loc .line) ∷ decimal (x .loc .column) ∷ [])
 
 -- the report of what was found
-unfoldable pub textOf : Result (List Table) → List ℕ
-textOf (ok ts) = acceptance ts
+unfoldable pub textOf : Result Analysis → List ℕ
+textOf (ok a) = acceptance a
 textOf (err x) = refusal x

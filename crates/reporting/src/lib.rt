@@ -3,6 +3,7 @@
 ghost use mathlib.Core.Path.{_≡_};
 ghost use mathlib.Core.List.{_∷_};
 ghost use Prim.Native.Nat.{_≤_, _<_};
+ghost use lib.Dec.{leb};
 ghost use lib.ListN.{length};
 ghost use Rattle.reader.specs.Ceilings.{maxBytes};
 ghost use Rattle.text.specs.Text.{part};
@@ -11,8 +12,9 @@ ghost use Rattle.paths.specs.Path.{takenBy, tableOf, WellFormed};
 ghost use Rattle.tables.specs.State.{tablesOf, Ready};
 ghost use Rattle.output.specs.Put.{Room, Wrote};
 ghost use Rattle.reporting.specs.Text.{itemLine, itemLines, pathLine, pathLines, acceptance, refusal};
-ghost use Rattle.reporting.specs.Bounds.{pair, pairBound, refusalBound, nameBound, itemBound, itemsBound, pathBound, pathsBound, acceptanceBound};
+ghost use Rattle.reporting.specs.Bounds.{pair, pairBound, headLine, headBound, refusalBound, nameBound, itemBound, itemsBound, pathBound, pathsBound, acceptanceBound};
 ghost use Rattle.reporting.specs.Taker.{tookOf, lineIf};
+ghost use Rattle.reporting.specs.Waits.{RowsBetween, analysisIn};
 use ast::CompileError;
 use ast::numbers::error_number;
 use ast::numbers::type_number;
@@ -28,10 +30,15 @@ use paths::Path;
 use tables::path_at;
 use text::Place;
 
-const LINE_END: u8 = 10;
+mod waits; // waits.rt: the lines of the waits
+
+pub const LINE_END: u8 = 10;
+
+// No longer are the lines of the waits: 1024 of at most 24 bytes.
+const MOST_OF_WAITS: usize = 24576;
 
 // Two fields with numbers.
-fn put_pair(output: &mut [u8], writing: bool, at: usize, a: u32, b: u32) -> usize
+pub fn put_pair(output: &mut [u8], writing: bool, at: usize, a: u32, b: u32) -> usize
     requires { ⌜ Room writing (now output) at (pair a b) pairBound ⌝ }
     ensures { λ r. ⌜ Wrote writing (now (output .entry)) at (pair a b) pairBound (now (output .exit)) r ⌝ }
 {
@@ -175,10 +182,21 @@ fn put_paths(
     next
 }
 
-// A,paths, and each path.
+// A,paths.
+fn put_head(output: &mut [u8], writing: bool, at: usize, count: u32) -> usize
+    requires { ⌜ Room writing (now output) at (headLine count) headBound ⌝ }
+    ensures { λ r. ⌜ Wrote writing (now (output .entry)) at (headLine count) headBound (now (output .exit)) r ⌝ }
+{
+    let head = put_bytes(output, writing, at, b"A,");
+    let numbered = put_decimal(output, writing, head, count);
+    put_byte(output, writing, numbered, LINE_END)
+}
+
+// An acceptance, of n rows: A,paths, each path, and after the last one the waits in the rows of the block.
 pub fn put_acceptance(
     listing: &[u8],
     table: &[u32],
+    n: usize,
     d: Declared,
     rows: [[NamePlace; 32]; 32],
     taken: &[u32; 32],
@@ -186,11 +204,34 @@ pub fn put_acceptance(
     writing: bool,
     at: usize,
 ) -> usize
-    requires { ⌜ Ready (now listing) (now table) d rows (now taken) × (length (now listing) ≤ maxBytes) × Room writing (now output) at (acceptance (tablesOf (now listing) (now table) d rows (now taken))) acceptanceBound ⌝ }
-    ensures { λ r. ⌜ Wrote writing (now (output .entry)) at (acceptance (tablesOf (now (listing .entry)) (now (table .entry)) d rows (now (taken .entry)))) acceptanceBound (now (output .exit)) r ⌝ }
+    requires { ⌜ Ready (now listing) (now table) d rows (now taken) × (length (now listing) ≤ maxBytes) × RowsBetween (now table) (d .block) n × Room writing (now output) at (acceptance (analysisIn (now listing) (now table) n d rows (now taken))) acceptanceBound ⌝ }
+    ensures { λ r. ⌜ Wrote writing (now (output .entry)) at (acceptance (analysisIn (now (listing .entry)) (now (table .entry)) n d rows (now (taken .entry)))) acceptanceBound (now (output .exit)) r ⌝ }
 {
-    let head = put_bytes(output, writing, at, b"A,");
-    let count = put_decimal(output, writing, head, d.count);
-    let first = put_byte(output, writing, count, LINE_END);
-    put_paths(listing, table, d, rows, taken, output, writing, first)
+    let block = d.block as usize;
+    let head = put_head(output, writing, at, d.count);
+    let last = put_paths(listing, table, d, rows, taken, output, writing, head);
+    waits::put_waits(table, output, writing, last, block, n)
+}
+
+// Whether output has room for an acceptance. The paths are measured; the waits only where it depends on them.
+pub fn has_room(
+    listing: &[u8],
+    table: &[u32],
+    n: usize,
+    d: Declared,
+    rows: [[NamePlace; 32]; 32],
+    taken: &[u32; 32],
+    output: &mut [u8],
+) -> bool
+    requires { ⌜ Ready (now listing) (now table) d rows (now taken) × (length (now listing) ≤ maxBytes) × RowsBetween (now table) (d .block) n ⌝ }
+    ensures { λ r. ⌜ r ≡ leb (length (acceptance (analysisIn (now (listing .entry)) (now (table .entry)) n d rows (now (taken .entry))))) (length (now (output .entry))) ⌝ }
+    ensures { λ _. ⌜ now (output .exit) ≡ now (output .entry) ⌝ }
+{
+    let block = d.block as usize;
+    let head = put_head(output, false, 0, d.count);
+    let last = put_paths(listing, table, d, rows, taken, output, false, head);
+    if last + MOST_OF_WAITS <= output.len() {
+        return true;
+    }
+    waits::put_waits(table, output, false, last, block, n) <= output.len()
 }

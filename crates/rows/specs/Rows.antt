@@ -14,7 +14,7 @@ use Rattle.ast.specs.declared.BinaryCompareOp.the-variants.{NumNotEqual}
 use Rattle.ast.specs.declared.BinaryMathOp.the-variants.{Min}
 use Rattle.ast.specs.declared.UnaryMathOp.the-variants.{Not}
 use Rattle.ast.specs.declared.UnaryCryptoOp.the-variants.{Ripemd160}
-use Rattle.ast.specs.declared.LocktimeOp.the-variants.{Csv}
+use Rattle.ast.specs.declared.LocktimeOp.the-variants.{CsvTime}
 use Rattle.ast.specs.Tree.{unplaced}
 use Rattle.ast.specs.Numbers.{targets, types, logicalOps, compareOps, mathOps, unaryOps, cryptoOps, locktimeOps, targetNumber, typeNumber, logicalNumber, compareNumber, mathNumber, unaryNumber, cryptoNumber, locktimeNumber}
 use Rattle.text.specs.declared.Place.{Place}
@@ -95,7 +95,7 @@ kept =
     record { letter = 80; line = λ r. Line.StackParam (placeIn r) (getD types (r .c) Boolean) (partIn r) } ∷
     record { letter = 66; line = λ r. Line.Block (r .a) } ∷
     record { letter = 73; line = λ r. Line.Statement (StatementLine.IfStatement (placeIn r) (eqb (r .a) 1)) } ∷
-    record { letter = 76; line = λ r. Line.Statement (StatementLine.LocktimeStatement (placeIn r) (getD locktimeOps (r .a) Csv) (signedIn r)) } ∷
+    record { letter = 76; line = λ r. Line.Statement (StatementLine.LocktimeStatement (placeIn r) (getD locktimeOps (r .a) CsvTime) (signedIn r)) } ∷
     record { letter = 86; line = λ r. Line.Statement (StatementLine.VerifyStatement (placeIn r)) } ∷
     record { letter = 69; line = λ r. Line.Statement (StatementLine.ExpressionStatement (placeIn r)) } ∷
     record { letter = 118; line = λ r. Line.Expression (ExpressionLine.Variable (placeIn r) (partIn r)) } ∷

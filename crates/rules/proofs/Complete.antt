@@ -4,7 +4,7 @@ use mathlib.Core.List.{List, [], _∷_, _++_, map, append-assoc}
 use mathlib.Core.Path.{_≡_, refl, sym, _∙_, ap, ap₂, subst}
 use lib.ListN.{length, drop, length-map}
 use Rattle.rules.specs.Ast.{Location, Target, StackParam, Expression, Block, Ok}
-use Rattle.rules.specs.Result.{ok, _>>=_, _>>_}
+use Rattle.rules.specs.Result.{ok, _>>=_}
 use Rattle.rules.specs.Paths.{Path, paths, count}
 use Rattle.rules.specs.Table.{Table, params}
 use Rattle.rules.specs.Types.{truth}
@@ -20,7 +20,7 @@ use Rattle.rules.proofs.Moving.{Begun, transfer-sound, transfer-can}
 use Rattle.rules.proofs.Flowing.{Flows, returns, waits, verifies, splits, count-paths, First, first}
 use Rattle.rules.proofs.Steps.{Stepped, stepped, outs, onward, before, steps}
 use Rattle.rules.proofs.Each.{each-length, Begins, begins-left, begins-right, begins-map, drop-length}
-use Rattle.rules.proofs.Sound.{examine-sound, examine-can, Sound, sound, more}
+use Rattle.rules.proofs.Sound.{wait-can, examine-sound, examine-can, Sound, sound, more}
 
 -- a path meets the names that stand below those already taken
 abbrev pub Meets : List Met → Path → List StackParam → Type 0
@@ -138,7 +138,7 @@ complete (returns l e) g ks₀ ks t ts i s fr d p q k =
     (stepped [] (x .0) ts, ap (λ m. m >>= λ t′. ok (stepped [] t′ ts)) (x .1))
 complete (waits l n o v f) g ks₀ ks t ts i s fr d p q k =
     let r = complete f g ks₀ ks t ts i s fr d (p .1) (q .1) k in
-    (r .0, ap (λ c. c >> steps f g t ts) (q .0) ∙ r .1)
+    (r .0, ap (λ m. m >>= λ k. steps f g t ts) (wait-can l o v (q .0)) ∙ r .1)
 complete (verifies l e {b = b} f) g ks₀ ks t ts i s fr d p q k =
     let k′ = after e ks (paths b) (params t ∷ map params ts) k in
     let x = passes f g e ks t (map params ts) s (d .0) (p .0) (q .0) k′ in

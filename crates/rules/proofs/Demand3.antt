@@ -9,15 +9,15 @@ use lib.Dec.{eqb}
 use lib.ListN.{length, getD, length-map, length-append}
 use borrow.Author.Tests.{eqb-true, eq-eqb}
 use Rattle.rules.specs.Ast.{Name, same, Target, StackParam, Declaration, Contract, Block, Ok, fromTop}
-use Rattle.rules.specs.Result.{ok, _>>=_, _>>_, answer}
+use Rattle.rules.specs.Result.{Result, ok, _>>=_, _>>_, answer}
 use Rattle.rules.specs.Paths.{Path, paths, count}
 use Rattle.rules.specs.Flow.{flow}
 use Rattle.rules.specs.Table.{Table, params, buildAll}
 use Rattle.rules.specs.Walk.{Walked, walk}
 use Rattle.rules.specs.Unused.{unused, unusedAll}
-use Rattle.rules.specs.Analyze.{counted, analyze}
+use Rattle.rules.specs.Analyze.{counted, Analysis, begin, analyze}
 use Rattle.rules.specs.Stack.{Met, meets, along, feed, stack, Empties}
-use Rattle.rules.proofs.Takers.{final, finalAll, finals}
+use Rattle.rules.proofs.Takers.{final, finalAll, finals, waitsOf, outcome}
 use Rattle.rules.proofs.Theorem.{check, Accepted, Demand3}
 use Rattle.rules.specs.InOrder.{DistinctAll, Typed, Limited, InOrder}
 use Rattle.rules.proofs.Basics.{Err≢Ok, ok-ok, bound, checked, both-ok, answer-ok, same-true, same-refl, cons-head, cons-tail, nil≢cons′}
@@ -154,11 +154,13 @@ told c f t ts z n b h u =
       final = ap (λ us. z .fin ++ z .cur ∷ us) (spent (c .block) (c .target) t ts z (c .declarations) s (b .of) n) ∙ takes-finals (paths (c .block)) (outs z) (c .declarations) e l;
     }
 
-told-walk : (c : Contract) (f : Flows (c .block)) (ts : List Table) (w : Walked) → length (c .declarations) ≡ count (c .block) → BuiltAll (c .declarations) ts → walk (c .block) (c .target) ts 0 ≡ ok w → unusedAll (w .tables) ≡ Ok → Told c (w .tables)
+told-walk : (c : Contract) (f : Flows (c .block)) (ts : List Table) (w : Walked) → length (c .declarations) ≡ count (c .block) → BuiltAll (c .declarations) ts → walk (c .block) (c .target) (begin ts) ≡ ok w → unusedAll (w .tables) ≡ Ok → Told c (w .tables) × (w .waits ≡ waitsOf (c .block))
 told-walk c f [] w n b h u = absurd (nil≢cons′ (headed (c .block) (first f) [] (c .declarations) (b .of) n .2))
 told-walk c f (t ∷ ts) w n b h u =
-    let m = bound (steps f (c .target) t ts) (λ z. ok (placedAt [] z)) (sym (simulate f (c .target) [] t ts) ∙ h) in
-    subst (λ x. Told c (x .tables)) (ok-ok (m .then)) (told c f t ts (m .value) n b (m .first) (subst (λ x. unusedAll (x .tables) ≡ Ok) (sym (ok-ok (m .then))) u))
+    let m = bound (steps f (c .target) t ts) (λ z. ok (placedAt [] (waitsOf (c .block)) z)) (sym (simulate f (c .target) [] [] t ts) ∙ h) in (
+      subst (λ x. Told c (x .tables)) (ok-ok (m .then)) (told c f t ts (m .value) n b (m .first) (subst (λ x. unusedAll (x .tables) ≡ Ok) (sym (ok-ok (m .then))) u)),
+      ap (λ x. x .waits) (sym (ok-ok (m .then))),
+    )
 
 -- each path empties its stack
 emptied : (c : Contract) → Each (λ p d. Exact p (fromTop d)) (paths (c .block)) (c .declarations) → (n : ℕ) → n < count (c .block) → Empties c n
@@ -166,31 +168,36 @@ emptied c e n h =
     let q : Exact (getD (paths (c .block)) n []) (fromTop (getD (c .declarations) n [])) = each-at (λ p d. Exact p (fromTop d)) (paths (c .block)) (c .declarations) [] [] n (omega (arith, count-paths (c .block))) e in
     subst (λ xs. feed (along (getD (paths (c .block)) n [])) xs ≡ some []) (sym q) (feed-can (along (getD (paths (c .block)) n [])))
 
+-- the analysis from the tables on
+abbrev walkFrom : Contract → List Table → Result Analysis
+walkFrom c ts = walk (c .block) (c .target) (begin ts) >>= λ w. unusedAll (w .tables) >> ok (record { tables = w .tables; waits = w .waits })
+
 -- all that an analysis that passes says
-record All (c : Contract) (ts : List Table) : Type 0 where
+record All (c : Contract) (a : Analysis) : Type 0 where
   order : InOrder c
   empty : (n : ℕ) → n < count (c .block) → Empties c n
-  final : ts ≡ finals c
+  final : a ≡ outcome c
 
-analyzed : (c : Contract) (ts : List Table) → analyze c ≡ ok ts → All c ts
+analyzed : (c : Contract) (a : Analysis) → analyze c ≡ ok a → All c a
 unfolding analyze
-analyzed c ts h =
-    let k₁ = checked (flow (c .block)) (counted (count (c .block)) (c .declarations) >> (buildAll (c .declarations) >>= λ ts. walk (c .block) (c .target) ts 0 >>= λ w. unusedAll (w .tables) >> ok (w .tables))) h in
-    let k₂ = checked (counted (count (c .block)) (c .declarations)) (buildAll (c .declarations) >>= λ ts. walk (c .block) (c .target) ts 0 >>= λ w. unusedAll (w .tables) >> ok (w .tables)) (k₁ .1) in
-    let b₃ = bound (buildAll (c .declarations)) (λ ts. walk (c .block) (c .target) ts 0 >>= λ w. unusedAll (w .tables) >> ok (w .tables)) (k₂ .1) in
-    let b₄ = bound (walk (c .block) (c .target) (b₃ .value) 0) (λ w. unusedAll (w .tables) >> ok (w .tables)) (b₃ .then) in
-    let k₅ = checked (unusedAll (b₄ .value .tables)) (ok (b₄ .value .tables)) (b₄ .then) in
+analyzed c a h =
+    let k₁ = checked (flow (c .block)) (counted (count (c .block)) (c .declarations) >> (buildAll (c .declarations) >>= λ ts. walkFrom c ts)) h in
+    let k₂ = checked (counted (count (c .block)) (c .declarations)) (buildAll (c .declarations) >>= λ ts. walkFrom c ts) (k₁ .1) in
+    let b₃ = bound (buildAll (c .declarations)) (λ ts. walkFrom c ts) (k₂ .1) in
+    let b₄ = bound (walk (c .block) (c .target) (begin (b₃ .value))) (λ w. unusedAll (w .tables) >> ok (record { tables = w .tables; waits = w .waits })) (b₃ .then) in
+    let w = b₄ .value in
+    let k₅ = checked (unusedAll (w .tables)) (ok (record { tables = w .tables; waits = w .waits })) (b₄ .then) in
     let n = counted-sound (count (c .block)) (c .declarations) (k₂ .0) in
     let b = buildAll-sound (c .declarations) (b₃ .value) (b₃ .first) in
-    let r = told-walk c (flows (c .block) (k₁ .0)) (b₃ .value) (b₄ .value) n b (b₄ .first) (k₅ .0) in
+    let r = told-walk c (flows (c .block) (k₁ .0)) (b₃ .value) w n b (b₄ .first) (k₅ .0) in
     record {
-      order = record { flows = k₁ .0; counts = n; distinct = b .distinct; typed = r .typed; limited = r .limited };
-      empty = emptied c (r .exact);
-      final = sym (ok-ok (k₅ .1)) ∙ r .final;
+      order = record { flows = k₁ .0; counts = n; distinct = b .distinct; typed = r .0 .typed; limited = r .0 .limited };
+      empty = emptied c (r .0 .exact);
+      final = sym (ok-ok (k₅ .1)) ∙ ap₂ (λ ts ks. record { tables = ts; waits = ks }) (r .0 .final) (r .1);
     }
 
--- an accepted contract's tables are those that the declarations and the paths give
-pub accepted-finals : (c : Contract) → Accepted c → analyze c ≡ ok (finals c)
+-- an accepted contract's tables and waits are those that the tree gives
+pub accepted-finals : (c : Contract) → Accepted c → analyze c ≡ ok (outcome c)
 unfolding check
 accepted-finals c h = let a = answer-ok (analyze c) h in a .1 ∙ ap ok (analyzed c (a .0) (a .1) .final)
 
@@ -213,13 +220,13 @@ finished c f t ts z n b h e =
     let e′ = each-unmap params Exact (paths (c .block)) (outs z) (subst (Each Exact (paths (c .block))) (sym l) (each-onmap fromTop Exact (paths (c .block)) (c .declarations) e)) in
     subst (λ us. unusedAll (z .fin ++ z .cur ∷ us) ≡ Ok) (sym (spent (c .block) (c .target) t ts z (c .declarations) s (b .of) n)) (used-can (paths (c .block)) (outs z) (s .each) e′)
 
-walks : (c : Contract) (f : Flows (c .block)) (ts : List Table) → InOrder c → BuiltAll (c .declarations) ts → Each (λ p d. Exact p (fromTop d)) (paths (c .block)) (c .declarations) → (w : Walked) × (walk (c .block) (c .target) ts 0 ≡ ok w) × (unusedAll (w .tables) ≡ Ok)
+walks : (c : Contract) (f : Flows (c .block)) (ts : List Table) → InOrder c → BuiltAll (c .declarations) ts → Each (λ p d. Exact p (fromTop d)) (paths (c .block)) (c .declarations) → (w : Walked) × (walk (c .block) (c .target) (begin ts) ≡ ok w) × (unusedAll (w .tables) ≡ Ok)
 walks c f [] o b e = absurd (nil≢cons′ (headed (c .block) (first f) [] (c .declarations) (b .of) (o .counts) .2))
 walks c f (t ∷ ts) o b e =
     let q = sym (b .of) in
     let r = complete f (c .target) [] [] t ts (omega arith) (start t (b .fresh .0)) (begun ts (b .fresh .1)) (subst DistinctEach q (distinct-each (c .declarations) (o .distinct))) (subst (TypedOn (c .block) (c .target)) q (transport⁻¹ (typed-eq (c .block) (c .target) (c .declarations) 0) (o .typed))) (o .limited)
     (subst (Begins (Meets []) (paths (c .block))) q (each-begins (Meets []) (paths (c .block)) (map fromTop (c .declarations)) (each-onmap fromTop Exact (paths (c .block)) (c .declarations) e))) in
-    (placedAt [] (r .0), simulate f (c .target) [] t ts ∙ ap (λ m. m >>= λ z. ok (placedAt [] z)) (r .1), finished c f t ts (r .0) (o .counts) b (r .1) e)
+    (placedAt [] (waitsOf (c .block)) (r .0), simulate f (c .target) [] [] t ts ∙ ap (λ m. m >>= λ z. ok (placedAt [] (waitsOf (c .block)) z)) (r .1), finished c f t ts (r .0) (o .counts) b (r .1) e)
 
 pub in-order-accepted : (c : Contract) → InOrder c → ((n : ℕ) → n < count (c .block) → Empties c n) → Accepted c
 unfolding check analyze answer
@@ -228,11 +235,11 @@ in-order-accepted c o k =
     let b = buildAll-can (c .declarations) (o .distinct) in
     let w = walks c (flows (c .block) (o .flows)) (b .0) o (buildAll-sound (c .declarations) (b .0) (b .1)) e in
     ap answer (
-    ap (λ m. m >> (counted (count (c .block)) (c .declarations) >> (buildAll (c .declarations) >>= λ ts. walk (c .block) (c .target) ts 0 >>= λ w. unusedAll (w .tables) >> ok (w .tables)))) (o .flows)
-    ∙ ap (λ m. m >> (buildAll (c .declarations) >>= λ ts. walk (c .block) (c .target) ts 0 >>= λ w. unusedAll (w .tables) >> ok (w .tables))) (counted-can (count (c .block)) (c .declarations) (o .counts))
-    ∙ ap (λ m. m >>= λ ts. walk (c .block) (c .target) ts 0 >>= λ w. unusedAll (w .tables) >> ok (w .tables)) (b .1)
-    ∙ ap (λ m. m >>= λ w. unusedAll (w .tables) >> ok (w .tables)) (w .1)
-    ∙ ap (λ m. m >> ok (w .0 .tables)) (w .2))
+    ap (λ m. m >> (counted (count (c .block)) (c .declarations) >> (buildAll (c .declarations) >>= λ ts. walkFrom c ts))) (o .flows)
+    ∙ ap (λ m. m >> (buildAll (c .declarations) >>= λ ts. walkFrom c ts)) (counted-can (count (c .block)) (c .declarations) (o .counts))
+    ∙ ap (λ m. m >>= λ ts. walkFrom c ts) (b .1)
+    ∙ ap (λ m. m >>= λ w. unusedAll (w .tables) >> ok (record { tables = w .tables; waits = w .waits })) (w .1)
+    ∙ ap (λ m. m >> ok (record { tables = w .0 .tables; waits = w .0 .waits })) (w .2))
 
 -- DEMAND 3, on trees
 pub demand3 : Demand3

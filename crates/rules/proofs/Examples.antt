@@ -5,19 +5,19 @@ use mathlib.Core.List.{List, [], _∷_, map}
 use mathlib.Core.Option.{Option, some}
 use mathlib.Core.Path.{_≡_, refl}
 use lib.ListN.{replicate}
-use Rattle.rules.specs.Ast.{Location, nowhere, Signed, Target, Legacy, ItemType, Signature, Number, String, Boolean, StackParam, Declaration, Contract, Expression, Variable, NumberLiteral, BooleanLiteral, StringLiteral, LogicalExpression, CompareExpression, UnaryMathExpression, BinaryMathExpression, UnaryCryptoExpression, CheckSigExpression, ByteExpression, Block, IfStatement, IfElseStatement, LocktimeStatement, ExpressionStatement, []ᵇ, _∷ᵇ_, BoolAnd, Equal, Greater, Less, Add as Sum, Negate, Not, Sha256, Segwit, Taproot, Factor, Factors, SingleSigFactor, MultiSigFactor, []ᶠ, _∷ᶠ_, LocktimeOp, Cltv, Csv, Checked, Ok, Err, fault, DuplicateVariable, UndefinedVariable, VariableConsumed, UnusedVariable, InvalidConsumptionOrder, TypeMismatch, InvalidOperation, NoReturn, UnreachableCode, DeclarationPathMismatch, IntegerOverflow, MalformedPubkey, same, loc, place}
+use Rattle.rules.specs.Ast.{Location, nowhere, Signed, Target, Legacy, ItemType, Signature, Number, String, Boolean, StackParam, Declaration, Contract, Expression, Variable, NumberLiteral, BooleanLiteral, StringLiteral, LogicalExpression, CompareExpression, UnaryMathExpression, BinaryMathExpression, UnaryCryptoExpression, CheckSigExpression, ByteExpression, Block, IfStatement, IfElseStatement, LocktimeStatement, ExpressionStatement, []ᵇ, _∷ᵇ_, BoolAnd, Equal, Greater, Less, Add as Sum, Negate, Not, Sha256, Segwit, Taproot, Factor, Factors, SingleSigFactor, MultiSigFactor, []ᶠ, _∷ᶠ_, LocktimeOp, Cltv, Csv, CsvTime, Checked, Ok, Err, fault, DuplicateVariable, UndefinedVariable, VariableConsumed, UnusedVariable, InvalidConsumptionOrder, TypeMismatch, InvalidOperation, NoReturn, UnreachableCode, DeclarationPathMismatch, IntegerOverflow, MalformedPubkey, same, loc, place}
 use Rattle.rules.specs.Result.{Result, ok, err, answer}
 use Rattle.rules.specs.Paths.{count}
 use Rattle.rules.specs.Flow.{flow, followed, goesOn}
-use Rattle.rules.specs.Table.{Table, among, enter, build, buildAll}
+use Rattle.rules.specs.Table.{among, enter, build, buildAll}
 use Rattle.rules.specs.Usage.{usage, take, takeEntry, free}
 use Rattle.rules.specs.Keys.{within, isDigit, allDigits, isHex, digit, firstByte, shaped, isKey, pushed, isAscii}
 use Rattle.rules.specs.Types.{typeOf, isSignature, notSignature, isNumber, isString, isBoolean, isNot, isEquality, passed, or17, ofType, variable, nameOf, literalOf, ascii, compared, compare, signature, key, sigKey, size, inner, inners, threshold, factor, unary, truth}
-use Rattle.rules.specs.Limits.{or21, fourBytes, element, security, upTo, inBounds, wait}
+use Rattle.rules.specs.Limits.{or21, fourBytes, element, security, upTo, inBounds, carried, wait}
 use Rattle.rules.specs.Transfer.{placed, untaken, run, handOne, hand, transfer}
-use Rattle.rules.specs.Walk.{examine, tableAt, examineAt, cross, walk}
+use Rattle.rules.specs.Walk.{Wait, examine, tableAt, examineAt, cross, walk}
 use Rattle.rules.specs.Unused.{used, unused, unusedAll}
-use Rattle.rules.specs.Analyze.{firstItem, counted, analyze}
+use Rattle.rules.specs.Analyze.{firstItem, counted, Analysis, analyze}
 use Rattle.rules.proofs.Theorem.{check}
 
 abbrev at : ℕ → ℕ → ℕ → ℕ → Location
@@ -49,8 +49,8 @@ worked = record {
 }
 
 -- the lines that took the items, path by path from the top
-unfoldable takers : Result (List Table) → List (List (Option ℕ))
-takers (ok ts) = map (map (λ e. e .taken)) ts
+unfoldable takers : Result Analysis → List (List (Option ℕ))
+takers (ok a) = map (map (λ e. e .taken)) (a .tables)
 takers (err x) = []
 
 worked-takers : takers (analyze worked) ≡ (some 10 ∷ some 15 ∷ []) ∷ (some 10 ∷ some 20 ∷ []) ∷ []
@@ -94,6 +94,7 @@ abbrev inputs : List Contract
 inputs =
     numbered (plus 2147483647) ∷ numbered (minus 2147483647) ∷ numbered (plus 2147483648) ∷ numbered (minus 2147483648) ∷
     waiting Csv (plus 65535) ∷ waiting Csv (plus 65536) ∷ waiting Cltv (plus 4294967295) ∷ waiting Cltv (plus 4294967296) ∷ waiting Csv (minus 1) ∷
+    waiting CsvTime (plus 65535) ∷ waiting CsvTime (plus 65536) ∷ waiting CsvTime (minus 1) ∷
     lettered 520 122 ∷ lettered 521 122 ∷ lettered 521 97 ∷ lettered 522 97 ∷ lettered 1040 70 ∷ lettered 1042 70 ∷
     one ab (ret (LogicalExpression here BoolAnd (var 3 97) (var 4 98))) ∷
     one ab (ret (LogicalExpression here BoolAnd (var 3 98) (var 4 98))) ∷
@@ -110,6 +111,7 @@ abbrev results : List Checked
 results =
     Ok ∷ Ok ∷ Err (fault IntegerOverflow (spot 3)) ∷ Err (fault IntegerOverflow (spot 3)) ∷
     Ok ∷ Err (fault IntegerOverflow (spot 3)) ∷ Ok ∷ Err (fault IntegerOverflow (spot 3)) ∷ Err (fault IntegerOverflow (spot 3)) ∷
+    Ok ∷ Err (fault IntegerOverflow (spot 3)) ∷ Err (fault IntegerOverflow (spot 3)) ∷
     Ok ∷ Err (fault IntegerOverflow (spot 3)) ∷ Err (fault IntegerOverflow (spot 3)) ∷ Ok ∷ Ok ∷ Err (fault IntegerOverflow (spot 3)) ∷
     Err (fault InvalidConsumptionOrder (spot 3)) ∷
     Err (fault VariableConsumed (spot 4)) ∷
@@ -123,7 +125,7 @@ results =
     []
 
 edges : map check inputs ≡ results
-unfolding check answer analyze firstItem flow followed goesOn place counted count buildAll build enter among same walk examineAt examine tableAt cross usage take takeEntry free truth compared compare nameOf literalOf loc signature key sigKey size inner inners threshold factor passed variable ofType typeOf isSignature notSignature isNumber isString isBoolean isNot isEquality or17 ascii unary security or21 fourBytes element pushed isHex allDigits isDigit within upTo inBounds wait transfer placed run untaken hand handOne unused used unusedAll
+unfolding check answer analyze firstItem flow followed goesOn place counted count buildAll build enter among same walk examineAt examine tableAt cross usage take takeEntry free truth compared compare nameOf literalOf loc signature key sigKey size inner inners threshold factor passed variable ofType typeOf isSignature notSignature isNumber isString isBoolean isNot isEquality or17 ascii unary security or21 fourBytes element pushed isHex allDigits isDigit within upTo inBounds carried wait transfer placed run untaken hand handOne unused used unusedAll
 edges = refl
 
 -- The type rules, keys, transfers and the slips that document 01 names. Items: a, b Boolean, n Number, p String, s Signature (97, 98, 110, 112, 115).
@@ -224,5 +226,17 @@ results₂ =
     []
 
 edges₂ : map check inputs₂ ≡ results₂
-unfolding check answer analyze firstItem flow followed goesOn place counted count buildAll build enter among same walk examineAt examine tableAt cross usage take takeEntry free truth compared compare nameOf literalOf loc signature key sigKey size inner inners threshold factor passed variable ofType typeOf isSignature notSignature isNumber isString isBoolean isNot isEquality or17 ascii isAscii unary security or21 fourBytes element pushed isHex allDigits isDigit digit firstByte shaped isKey within upTo inBounds wait transfer placed run untaken hand handOne unused used unusedAll
+unfolding check answer analyze firstItem flow followed goesOn place counted count buildAll build enter among same walk examineAt examine tableAt cross usage take takeEntry free truth compared compare nameOf literalOf loc signature key sigKey size inner inners threshold factor passed variable ofType typeOf isSignature notSignature isNumber isString isBoolean isNot isEquality or17 ascii isAscii unary security or21 fourBytes element pushed isHex allDigits isDigit digit firstByte shaped isKey within upTo inBounds carried wait transfer placed run untaken hand handOne unused used unusedAll
 edges₂ = refl
+
+-- the waits of an accepted contract, in listing order: bit 22 (4194304) is set for units of 512 seconds
+unfoldable waitsFrom : Result Analysis → List Wait
+waitsFrom (ok a) = a .waits
+waitsFrom (err x) = []
+
+abbrev waited : ℕ → LocktimeOp → ℕ → Block → Block
+waited n o k b = LocktimeStatement here n o (plus k) ∷ᵇ b
+
+carried-waits : waitsFrom (analyze (pair [] [] (waited 5 Cltv 700000 (branch (BooleanLiteral here true) (waited 8 Csv 144 returnTrue) (waited 11 CsvTime 65535 returnTrue))))) ≡ record { line = 5; number = 700000 } ∷ record { line = 8; number = 144 } ∷ record { line = 11; number = 4259839 } ∷ []
+unfolding waitsFrom analyze flow followed goesOn counted count buildAll build enter walk examineAt examine tableAt cross usage truth security or21 upTo inBounds carried wait transfer placed run untaken hand unused unusedAll
+carried-waits = refl

@@ -1,16 +1,17 @@
 -- What a walk that passes says: types and limits are in order, and each path has taken the names it met, from the top.
-use Prim.Native.Nat.{_+_, _≤_}
+use Prim.Native.Nat.{ℕ, _+_, _≤_}
 use native.Mathlib.Omega.{arith}
+use mathlib.Core.Bool.{Bool, true, false}
 use mathlib.Core.List.{List, [], _∷_, _++_, map, append-assoc, append-nil}
-use mathlib.Core.Path.{_≡_, sym, _∙_, ap, ap₂, subst}
+use mathlib.Core.Path.{_≡_, refl, sym, _∙_, ap, ap₂, subst}
 use lib.ListN.{length, drop, length-map, length-append}
-use Rattle.rules.specs.Ast.{Location, Target, Expression, Block, IfElseStatement, []ᵇ, _∷ᵇ_, Ok}
+use Rattle.rules.specs.Ast.{Location, Signed, LocktimeOp, Target, Expression, Block, IfElseStatement, []ᵇ, _∷ᵇ_, Ok}
 use Rattle.rules.specs.Result.{ok, _>>=_, _>>_}
 use Rattle.rules.specs.Paths.{Path, paths, count}
 use Rattle.rules.specs.Table.{Table, params}
 use Rattle.rules.specs.Usage.{usage}
 use Rattle.rules.specs.Types.{truth}
-use Rattle.rules.specs.Limits.{security, wait}
+use Rattle.rules.specs.Limits.{or21, security, inBounds, carried, wait}
 use Rattle.rules.specs.Transfer.{transfer}
 use Rattle.rules.specs.Walk.{examine}
 use Rattle.rules.specs.Stack.{Met, met, meets}
@@ -23,6 +24,19 @@ use Rattle.rules.proofs.Moving.{Begun, transfer-sound}
 use Rattle.rules.proofs.Flowing.{Flows, returns, waits, verifies, splits, count-paths}
 use Rattle.rules.proofs.Steps.{Stepped, stepped, outs, onward, before, steps}
 use Rattle.rules.proofs.Each.{Each, each-append, each-map, each-length, drop-length}
+
+-- a wait passes exactly if it is within its bounds, and hands up the number that the script carries
+pub wait-sound : (l : Location) (o : LocktimeOp) (v : Signed) {k : ℕ} → wait l o v ≡ ok k → inBounds o v ≡ true
+unfolding wait or21
+wait-sound l o v h = go (inBounds o v) refl
+  where
+    go : (b : Bool) → inBounds o v ≡ b → inBounds o v ≡ true
+    go true q = q
+    go false q = absurd (err≢ok (rw (q, wait) at h))
+
+pub wait-can : (l : Location) (o : LocktimeOp) (v : Signed) → inBounds o v ≡ true → wait l o v ≡ ok (carried o v)
+unfolding wait or21
+wait-can l o v h = rw (h, wait) refl
 
 pub record Examined (g : Target) (e : Expression) (ks : List Met) (t t′ : Table) : Type 0 where
   pub state : State (ks ++ met e) t′
@@ -115,9 +129,9 @@ sound (returns l e) g ks₀ ks t ts z i s k h =
       limited = (x .limited, tt);
     })
 sound (waits l n o v f) g ks₀ ks t ts z i s k h =
-    let c = checked (wait l o v) (steps f g t ts) h in
-    let r = sound f g ks₀ ks t ts z i s k (c .1) in
-    record { each = r .each; same = r .same; begun = r .begun; typed = (tt, r .typed); limited = (c .0, r .limited) }
+    let c = bound (wait l o v) (λ k. steps f g t ts) h in
+    let r = sound f g ks₀ ks t ts z i s k (c .then) in
+    record { each = r .each; same = r .same; begun = r .begun; typed = (tt, r .typed); limited = (wait-sound l o v (c .first), r .limited) }
 sound (verifies l e {b = b} f) g ks₀ ks t ts z i s k h =
     let c = bound (examine g e t) (λ t′. steps f g t′ ts) h in
     let x = examine-sound g e ks t (c .value) s (c .first) in

@@ -1,5 +1,6 @@
 -- What "in order" means of a tree: flow, path count, distinct names, types, limits, each by its rule.
 use Prim.Native.Nat.{ℕ, _+_}
+use mathlib.Core.Bool.{true}
 use mathlib.Core.List.{List, [], _∷_}
 use mathlib.Core.Path.{_≡_}
 use lib.ListN.{length, getD}
@@ -7,7 +8,7 @@ use Rattle.rules.specs.Ast.{Name, Target, StackParam, Declaration, Contr
 use Rattle.rules.specs.Paths.{count}
 use Rattle.rules.specs.Flow.{flow}
 use Rattle.rules.specs.Types.{truth}
-use Rattle.rules.specs.Limits.{security, wait}
+use Rattle.rules.specs.Limits.{security, inBounds}
 use Rattle.rules.specs.Stack.{stack}
 
 -- a name is none of these
@@ -48,7 +49,7 @@ unfoldable mutual
   pub LimitedStatement : Statement → Type 0
   LimitedStatement (IfStatement l e b) = (security e ≡ Ok) × Limited b
   LimitedStatement (IfElseStatement l e b c) = (security e ≡ Ok) × Limited b × Limited c
-  LimitedStatement (LocktimeStatement l n o v) = wait l o v ≡ Ok
+  LimitedStatement (LocktimeStatement l n o v) = inBounds o v ≡ true
   LimitedStatement (VerifyStatement l e) = security e ≡ Ok
   LimitedStatement (ExpressionStatement l e) = security e ≡ Ok
 

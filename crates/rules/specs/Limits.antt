@@ -1,9 +1,9 @@
 -- check_overflow, check_security, and the bounds of a wait: 21.
-use Prim.Native.Nat.{ℕ}
+use Prim.Native.Nat.{ℕ, _+_}
 use mathlib.Core.Bool.{Bool, cond}
 use lib.Dec.{eqb, leb}
-use Rattle.rules.specs.Ast.{Signed, Location, LocktimeOp, Cltv, Csv, Expression, Variable, NumberLiteral, BooleanLiteral, StringLiteral, LogicalExpression, CompareExpression, UnaryMathExpression, BinaryMathExpression, UnaryCryptoExpression, CheckSigExpression, ByteExpression, Checked, Ok, IntegerOverflow}
-use Rattle.rules.specs.Result.{both, refused}
+use Rattle.rules.specs.Ast.{Signed, Location, LocktimeOp, Cltv, Csv, CsvTime, Expression, Variable, NumberLiteral, BooleanLiteral, StringLiteral, LogicalExpression, CompareExpression, UnaryMathExpression, BinaryMathExpression, UnaryCryptoExpression, CheckSigExpression, ByteExpression, Checked, Ok, IntegerOverflow}
+use Rattle.rules.specs.Result.{Result, ok, _>>_, both, refused}
 use Rattle.rules.specs.Keys.{pushed}
 
 -- a bound that is kept, or else 21 at l
@@ -36,11 +36,18 @@ security (ByteExpression l a) = security a
 unfoldable pub upTo : ℕ → Signed → Bool
 upTo high v = cond (v .negative) (eqb (v .magnitude) 0) (leb (v .magnitude) high)
 
--- older 0 to 65535 (BIP 68, in blocks), after 0 to 4294967295 (BIP 65)
+-- after 0 to 4294967295 (BIP 65), older 0 to 65535 in blocks or in units of 512 seconds (BIP 68)
 unfoldable pub inBounds : LocktimeOp → Signed → Bool
-inBounds Csv v = upTo 65535 v
 inBounds Cltv v = upTo 4294967295 v
+inBounds Csv v = upTo 65535 v
+inBounds CsvTime v = upTo 65535 v
 
--- a wait within its bounds, else 21 at the wait
-unfoldable pub wait : Location → LocktimeOp → Signed → Checked
-wait l o v = or21 l (inBounds o v)
+-- the number that the script carries: the operand, with bit 22 (4194304) set for units of 512 seconds (BIP 68)
+unfoldable pub carried : LocktimeOp → Signed → ℕ
+carried Cltv v = v .magnitude
+carried Csv v = v .magnitude
+carried CsvTime v = 4194304 + v .magnitude
+
+-- a wait within its bounds hands up the number that the script carries, else 21 at the wait
+unfoldable pub wait : Location → LocktimeOp → Signed → Result ℕ
+wait l o v = or21 l (inBounds o v) >> ok (carried o v)

@@ -21,11 +21,11 @@ use Rattle.ast.specs.Tree.{Expression, Statement, LocktimeStatement, VerifyStat
 use Rattle.listing.specs.declared.Line.{Line}
 use Rattle.rows.specs.Rows.{lineIn}
 use Rattle.reader.specs.Spells.{SpellsExpression}
-use Rattle.rules.specs.Result.{Result, ok, err}
+use Rattle.rules.specs.Result.{Result, ok, err, _>>=_}
 use Rattle.rules.specs.Table.{Table}
 use Rattle.rules.specs.Limits.{wait}
 use Rattle.rules.specs.Transfer.{transfer}
-use Rattle.rules.specs.Walk.{Walked as Walk, examine, tableAt, examineAt, cross, walkStatement}
+use Rattle.rules.specs.Walk.{examine, tableAt, examineAt}
 use Rattle.nodes.specs.declared.Answer.{Answer}
 use Rattle.nodes.specs.declared.Answer.the-variants.{Pass, Fault}
 use Rattle.paths.specs.declared.NamePlace.{NamePlace}
@@ -35,8 +35,11 @@ use Rattle.paths.specs.Path.{tableOf, Onward, Walked}
 use Rattle.paths.proofs.Walks.{placed-on}
 use Rattle.declarations.specs.declared.Declared.{Declared}
 use Rattle.statements.specs.declared.Step.{Step}
+use Rattle.limits.specs.Waits.{waitOf}
+use Rattle.tables.specs.Held.{Held, statementHeld, examineHeld}
 use Rattle.tables.specs.State.{pathAt, tablesOf, PathReady, Ready}
-use Rattle.statements.specs.Steps.{inRange, crossing, tablesWith, InUse, Tried, On, Decided, Told, examined}
+use Rattle.statements.specs.Steps.{inRange, crossing, tablesWith, InUse, Tried, On, Decided, Told, waitStep, examined}
+use Rattle.tables.proofs.Held.{held-wait, held-verify, held-return, held-cross}
 use Rattle.tables.proofs.State.{result-fault, result-pass, items-same, element-set, set-there, set-past, table-at, table-past}
 
 -- the test of a path against those declared
@@ -104,7 +107,7 @@ module _ (s t : List ℕ) (d : Declared) (n : ℕ) (p : Path) (l : Location) (e 
 
   module _ (within : n < d .count) (r : InUse s t d n p) (w : Walked s t p (examine (d .target) e (tableOf s t p)) j u) where
     -- the rule on the path in use
-    on-path : (rows : List (List NamePlace)) (taken : List ℕ) → examineAt (d .target) l e (tablesWith s t d rows taken n p) n ≡ examine (d .target) e (tableOf s t p)
+    on-path : (rows : List (List NamePlace)) (taken : List ℕ) → examineHeld (d .target) l e (tablesWith s t d rows taken n p) n ≡ examine (d .target) e (tableOf s t p)
     unfolding examineAt tableAt
     on-path rows taken = rw (element-set (tablesOf s t d rows taken) n (tableOf s t p) (tableOf s t (pathAt d rows taken n)) (table-at s t d rows taken n within), tableAt)
 
@@ -130,7 +133,7 @@ module _ (s t : List ℕ) (d : Declared) (n : ℕ) {p q : Path} (e : n < d .coun
       go true h = ap (tablesWith s t d rows taken n) (e (ltb-true n (d .count) h))
       go false h = let past = table-past s t d rows taken n (ltb-false n (d .count) h) in set-past (tablesOf s t d rows taken) n (tableOf s t p) past ∙ sym (set-past (tablesOf s t d rows taken) n (tableOf s t q) past)
 
-  pub tried-as : {w : List Table → ℕ → Result Walk} {j : ℕ} {u : Used} → Tried s t d n p w j u → Tried s t d n q w j u
+  pub tried-as : {w : List Table → ℕ → Result Held} {j : ℕ} {u : Used} → Tried s t d n p w j u → Tried s t d n q w j u
   tried-as {w} T = record {
     passes = λ m a. let on = T .passes m a in (on .0, record { result = λ rows taken. ap (λ ts. w ts n) (sym (with-same rows taken)) ∙ on .1 .result rows taken; in-use = on .1 .in-use });
     stops = λ x a rows taken. ap (λ ts. w ts n) (sym (with-same rows taken)) ∙ T .stops x a rows taken;
@@ -142,14 +145,19 @@ examined-past s t d n l e h rows taken p u = tried-past s t d n p l e 0 (record 
 
 -- what the step of a statement says of it
 module _ (s t : List ℕ) (d : Declared) (n : ℕ) (x : Statement) (i j : ℕ) (l : Location) where
-  pub told-wait : {m : ℕ} {o : LocktimeOp} {v : Signed} (c : Checked) {r : Step} → x ≡ LocktimeStatement l m o v → j ≡ suc i → c ≡ wait l o v → (c ≡ Ok → r ≡ Step.Pass (i + 1)) → ((y : CompileError) → c ≡ Err y → r ≡ Step.Fault y) → Told s t d n x i j r
-  unfolding walkStatement
-  told-wait Ok h k said f g = subst (Told s t d n x i j) (sym (f refl)) (add-one i ∙ sym k, λ rows taken p u. ap (λ y. walkStatement y (d .target) (tablesWith s t d rows taken n p) n) h ∙ rw (sym said))
-  told-wait (Err y) h k said f g = subst (Told s t d n x i j) (sym (g y refl)) (λ rows taken p u. ap (λ y. walkStatement y (d .target) (tablesWith s t d rows taken n p) n) h ∙ rw (sym said))
+  pub told-wait : {m : ℕ} {o : LocktimeOp} {v : Signed} {r : Step} → x ≡ LocktimeStatement l m o v → j ≡ suc i → r ≡ waitStep (waitOf (wait l o v)) (i + 1) → Told s t d n x i j r
+  told-wait {m} {o} {v} h k e = subst (Told s t d n x i j) (sym e) (go (wait l o v) refl)
+    where
+      walks : (ts : List Table) → statementHeld x (d .target) ts n ≡ (wait l o v >>= λ k. ok (record { tables = ts; branch = n }))
+      walks ts = ap (λ y. statementHeld y (d .target) ts n) h ∙ held-wait l m o v (d .target) ts n
+
+      go : (y : Result ℕ) → wait l o v ≡ y → Told s t d n x i j (waitStep (waitOf y) (i + 1))
+      go (ok c) q = (add-one i ∙ sym k, λ rows taken p u. walks _ ∙ rw q)
+      go (err y) q = λ rows taken p u. walks _ ∙ rw q
 
   -- a verify or a return: what is decided of its expression
   module _ {e : Expression} (sp : SpellsExpression (lineIn t) s (suc i) e j) (r : Step) (D : Decided s t d n l e j r) where
-    told-as : ((ts : List Table) → walkStatement x (d .target) ts n ≡ examined (d .target) l e ts n) → Told s t d n x i j r
+    told-as : ((ts : List Table) → statementHeld x (d .target) ts n ≡ examined (d .target) l e ts n) → Told s t d n x i j r
     told-as same = go r D
       where
         go : (r : Step) → Decided s t d n l e j r → Told s t d n x i j r
@@ -159,21 +167,21 @@ module _ (s t : List ℕ) (d : Declared) (n : ℕ) (x : Statement) (i j : ℕ) (
         go (Step.If k h) D = absurd D
 
     pub told-verify : x ≡ VerifyStatement l e → Told s t d n x i j r
-    unfolding examined walkStatement
-    told-verify h = told-as (λ ts. ap (λ y. walkStatement y (d .target) ts n) h)
+    unfolding examined
+    told-verify h = told-as (λ ts. ap (λ y. statementHeld y (d .target) ts n) h ∙ held-verify l e (d .target) ts n)
 
     pub told-return : x ≡ ExpressionStatement l e → Told s t d n x i j r
-    unfolding examined walkStatement
-    told-return h = told-as (λ ts. ap (λ y. walkStatement y (d .target) ts n) h)
+    unfolding examined
+    told-return h = told-as (λ ts. ap (λ y. statementHeld y (d .target) ts n) h ∙ held-return l e (d .target) ts n)
 
 -- from the if-block on path n to the next path, whose table is p's; v is the table after the condition
 module _ (s t : List ℕ) (d : Declared) (n : ℕ) (p : Path) (l : Location) (v : Table) where
   -- no such path
   none-next : (rows : List (List NamePlace)) (taken : List ℕ) → d .count ≤ suc n → crossing l v n (tablesWith s t d rows taken (suc n) p) (suc n) ≡ err (fault DeclarationPathMismatch l)
-  unfolding cross tableAt
+  unfolding tableAt
   none-next rows taken h =
       let past = table-past s t d rows taken (suc n) h in
-      rw (set-past (tablesOf s t d rows taken) (suc n) (tableOf s t p) past, past, tableAt)
+      held-cross l v _ ∙ rw (set-past (tablesOf s t d rows taken) (suc n) (tableOf s t p) past, past, tableAt)
 
   pub crossed-past : (u : Used) → d .count ≤ suc n → u .answer ≡ Fault (fault DeclarationPathMismatch l) → Tried s t d (suc n) p (crossing l v n) 0 u
   crossed-past u h a = record {
@@ -186,16 +194,16 @@ module _ (s t : List ℕ) (d : Declared) (n : ℕ) (p : Path) (l : Location) (v 
 
   -- the rule on the two paths
   pub crossed : (u : Used) → suc n < d .count → InUse s t d (suc n) p → Walked s t p (transfer l v (tableOf s t p)) 0 u → Tried s t d (suc n) p (crossing l v n) 0 u
-  unfolding cross tableAt
+  unfolding tableAt
   crossed u within r w = record {
     passes = λ m a. (
       w .onward m a .next,
       record {
-        result = λ rows taken. rw (there rows taken, tableAt, result-pass s t u (w .result) a) (ap (λ ts. ok (record { tables = ts; branch = suc n })) (set-set (tablesOf s t d rows taken) (suc n) (tableOf s t p) (tableOf s t (u .path))));
+        result = λ rows taken. held-cross l v _ ∙ rw (there rows taken, tableAt, result-pass s t u (w .result) a) (ap (λ ts. ok (record { tables = ts; branch = suc n })) (set-set (tablesOf s t d rows taken) (suc n) (tableOf s t p) (tableOf s t (u .path))));
         in-use = stays s t d (suc n) r u (w .onward m a);
       },
     );
-    stops = λ x a rows taken. rw (there rows taken, tableAt, result-fault s t u (w .result) a);
+    stops = λ x a rows taken. held-cross l v _ ∙ rw (there rows taken, tableAt, result-fault s t u (w .result) a);
   }
     where
       there : (rows : List (List NamePlace)) (taken : List ℕ) → getElem? (tablesWith s t d rows taken (suc n) p) (suc n) ≡ some (tableOf s t p)
@@ -208,5 +216,5 @@ module _ (s t : List ℕ) (d : Declared) (n : ℕ) (p : Path) (l : Location) (v 
       go : (b : Bool) → ltb (suc n) (d .count) ≡ b → suc n < d .count
       go true q = ltb-true (suc n) (d .count) q
       go false q =
-          let f : _≡_ {A = Result Walk} (err (fault DeclarationPathMismatch l)) (ok (record { tables = tablesWith s t d [] [] (suc n) (u .path); branch = suc n })) = sym (none-next [] [] (ltb-false (suc n) (d .count) q)) ∙ T .passes m a .1 .result [] [] in
+          let f : _≡_ {A = Result Held} (err (fault DeclarationPathMismatch l)) (ok (record { tables = tablesWith s t d [] [] (suc n) (u .path); branch = suc n })) = sym (none-next [] [] (ltb-false (suc n) (d .count) q)) ∙ T .passes m a .1 .result [] [] in
           let o : _≡_ {A = ℕ} 0 1 = cc in absurd (omega arith)

@@ -2,8 +2,6 @@
 ghost use mathlib.Core.Path.{_≡_};
 ghost use mathlib.Core.Bool.{false};
 ghost use Prim.Native.Nat.{ℕ, suc, _≤_};
-ghost use Rattle.ast.specs.declared.Checked.{Checked};
-ghost use Rattle.ast.specs.declared.CompileError.{CompileError};
 ghost use Rattle.ast.specs.Tree.{Expression, Statement};
 ghost use Rattle.rows.specs.Rows.{lineIn};
 ghost use Rattle.reader.specs.Spells.{SpellsExpression, SpellsStatement};
@@ -12,14 +10,14 @@ ghost use Rattle.nodes.specs.Stands.{ExpressionAt, StatementAt};
 ghost use Rattle.usage.specs.Names.{hasNames};
 ghost use Rattle.paths.specs.Path.{tableOf, WellFormed};
 ghost use Rattle.tables.specs.State.{pathAt, Ready};
-ghost use Rattle.statements.specs.declared.Step.{Step};
-ghost use Rattle.statements.specs.Steps.{inRange, crossing, ItemsOf, InUse, Tried, Decided, Told, examined, rowAfter};
+ghost use Rattle.statements.specs.Steps.{inRange, crossing, ItemsOf, InUse, Tried, Decided, Told, examined, waitStep, rowAfter};
 use ast::Checked;
 use ast::CompileError;
 use ast::ErrorKind;
 use ast::Location;
 use declarations::Declared;
-use limits::check_wait;
+use limits::waits::Wait;
+use limits::waits::check_wait;
 use listing::StatementLine;
 use nodes::Answer;
 use nodes::statement_at;
@@ -127,13 +125,12 @@ pub fn cross_to(
 }
 
 // A wait that was checked: on to the next row, or the refusal.
-fn wait_step(c: Checked, next: u32) -> Step
-    ensures { λ r. ⌜ (c ≡ Checked.Ok → r ≡ Step.Pass next) ⌝ }
-    ensures { λ r. ⌜ ((x : CompileError) → c ≡ Checked.Err x → r ≡ Step.Fault x) ⌝ }
+fn wait_step(wait: Wait, next: u32) -> Step
+    ensures { λ r. ⌜ r ≡ waitStep wait next ⌝ }
 {
-    match c {
-        Checked::Ok => Step::Pass(next),
-        Checked::Err(x) => Step::Fault(x),
+    match wait {
+        Wait::Carries(_) => Step::Pass(next),
+        Wait::Refused(x) => Step::Fault(x),
     }
 }
 

@@ -1,3 +1,4 @@
+pub mod Held
 pub mod State
 pub mod Building
 pub mod Leaving

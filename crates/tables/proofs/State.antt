@@ -16,13 +16,13 @@ use Rattle.ast.specs.Numbers.{kindAmong, kindFrom}
 use Rattle.nodes.specs.declared.Answer.the-variants.{Pass, Fault}
 use Rattle.rules.specs.Result.{Result, ok, err}
 use Rattle.rules.specs.Table.{Table, params}
-use Rattle.rules.specs.Walk.{Walked}
 use Rattle.paths.specs.declared.NamePlace.{NamePlace}
 use Rattle.paths.specs.declared.Path.{Path}
 use Rattle.names.specs.Items.{itemsDown}
 use Rattle.paths.specs.declared.Used.{Used}
 use Rattle.paths.specs.Path.{tableFrom, tableOf, WellFormed, SameItems, resultWith, resultOf}
 use Rattle.declarations.specs.declared.Declared.{Declared}
+use Rattle.tables.specs.Held.{Held}
 use Rattle.tables.specs.State.{pathAt, tablesFrom, tablesOf, PathReady, Ready, locationIn, faultIn, nextIn, branchIn, outcome, noneTaken, noRows, refusal, OnlyFault, Moved, passed, turned}
 
 -- a kind's number says the kind
@@ -135,7 +135,7 @@ module _ {x : CompileError} {rows : List (List NamePlace)} {taken out : List ℕ
   unfolding outcome
   outcome-fault ts = rw (fault-in, outcome)
 
-  pub moved-refused : {s t : List ℕ} {d : Declared} {w : Result Walked} {j : ℕ} → w ≡ err x → Moved s t d w j rows taken out
+  pub moved-refused : {s t : List ℕ} {d : Declared} {w : Result Held} {j : ℕ} → w ≡ err x → Moved s t d w j rows taken out
   moved-refused {s} {t} {d} e = record {
     result = outcome-fault (tablesOf s t d rows taken) ∙ sym e;
     full = ap length (f .numbers) ∙ refusal-full x;

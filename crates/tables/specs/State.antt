@@ -10,12 +10,12 @@ use Rattle.ast.specs.Numbers.{kindFrom}
 use Rattle.ast.specs.Tree.{Declaration, fault, number}
 use Rattle.rules.specs.Result.{Result, ok, err, _>>=_, _>>_}
 use Rattle.rules.specs.Table.{Table, params, buildAll}
-use Rattle.rules.specs.Walk.{Walked}
 use Rattle.names.specs.Items.{ItemsAt, itemsDown}
 use Rattle.paths.specs.declared.NamePlace.{NamePlace}
 use Rattle.paths.specs.declared.Path.{Path}
 use Rattle.paths.specs.Path.{tableOf, noPlace, WellFormed, Placed}
 use Rattle.declarations.specs.declared.Declared.{Declared}
+use Rattle.tables.specs.Held.{Held}
 
 -- the path p: its row of places, its count of items, its taken set
 abbrev pub pathAt : Declared → List (List NamePlace) → List ℕ → ℕ → Path
@@ -69,7 +69,7 @@ abbrev pub branchIn : List ℕ → ℕ
 branchIn out = getD out 6 0
 
 -- as the rules have it
-unfoldable pub outcome : List Table → List ℕ → Result Walked
+unfoldable pub outcome : List Table → List ℕ → Result Held
 outcome ts out = elim (faultIn out) [ none ↦ ok (record { tables = ts; branch = branchIn out }) | some x ↦ err x ]
 
 -- numbers that say a refusal: no next row, no path in use
@@ -83,7 +83,7 @@ pub record OnlyFault (x : CompileError) (rows : List (List NamePlace)) (taken ou
   pub numbers : out ≡ refusal x
 
 -- a step of the walk: a rule's result; after a pass the next row is j, and every path can still be used; after a refusal nothing is left but the fault
-pub record Moved (s t : List ℕ) (d : Declared) (w : Result Walked) (j : ℕ) (rows : List (List NamePlace)) (taken out : List ℕ) : Type 0 where
+pub record Moved (s t : List ℕ) (d : Declared) (w : Result Held) (j : ℕ) (rows : List (List NamePlace)) (taken out : List ℕ) : Type 0 where
   pub result : outcome (tablesOf s t d rows taken) out ≡ w
   pub full : length out ≡ 7
   pub next : getD out 0 0 ≡ 0 → nextIn out ≡ j
@@ -99,7 +99,7 @@ unfoldable pub turned : List ℕ → ℕ → List ℕ
 turned out n = set (set out 0 0) 6 n
 
 -- the tables of all declarations, before the walk
-unfoldable pub started : List Declaration → Result Walked
+unfoldable pub started : List Declaration → Result Held
 started ds = buildAll ds >>= λ ts. ok (record { tables = ts; branch = 0 })
 
 -- numbers that say an acceptance

@@ -5,8 +5,9 @@ ghost use lib.ListN.{length};
 ghost use Rattle.ast.specs.Tree.{fault, unplaced};
 ghost use Rattle.rules.specs.Result.{ok, err};
 ghost use Rattle.reader.specs.Ceilings.{maxBytes};
-ghost use Rattle.tables.specs.State.{tablesOf, Ready};
+ghost use Rattle.tables.specs.State.{Ready};
 ghost use Rattle.reporting.specs.Text.{textOf};
+ghost use Rattle.reporting.specs.Waits.{RowsBetween, analysisIn};
 ghost use Rattle.verdicts.specs.declared.Verdict.{Verdict};
 ghost use Rattle.verdicts.specs.Verdicts.{verdictIn};
 ghost use Rattle.verdicts.specs.Reports.{reported, written};
@@ -18,6 +19,7 @@ use ast::numbers::error_from;
 use ast::unplaced;
 use declarations::Declared;
 use paths::NamePlace;
+use reporting::has_room;
 use reporting::put_acceptance;
 use reporting::put_refusal;
 use tables::slots;
@@ -82,24 +84,24 @@ pub fn report_refusal(output: &mut [u8], x: CompileError) -> Reported
     }
 }
 
-// An acceptance and its text, if output has room for it.
+// An acceptance, of n rows, and its text, if output has room for it.
 pub fn report_acceptance(
     listing: &[u8],
     table: &[u32],
+    n: usize,
     d: Declared,
     rows: [[NamePlace; 32]; 32],
     taken: &[u32; 32],
     output: &mut [u8],
 ) -> Reported
-    requires { ⌜ Ready (now listing) (now table) d rows (now taken) × (length (now listing) ≤ maxBytes) ⌝ }
-    ensures { λ r. ⌜ r ≡ reported (ok (tablesOf (now (listing .entry)) (now (table .entry)) d rows (now (taken .entry)))) (length (now (output .entry))) ⌝ }
-    ensures { λ _. ⌜ now (output .exit) ≡ written (textOf (ok (tablesOf (now (listing .entry)) (now (table .entry)) d rows (now (taken .entry))))) (now (output .entry)) ⌝ }
+    requires { ⌜ Ready (now listing) (now table) d rows (now taken) × (length (now listing) ≤ maxBytes) × RowsBetween (now table) (d .block) n ⌝ }
+    ensures { λ r. ⌜ r ≡ reported (ok (analysisIn (now (listing .entry)) (now (table .entry)) n d rows (now (taken .entry)))) (length (now (output .entry))) ⌝ }
+    ensures { λ _. ⌜ now (output .exit) ≡ written (textOf (ok (analysisIn (now (listing .entry)) (now (table .entry)) n d rows (now (taken .entry))))) (now (output .entry)) ⌝ }
 {
-    let size = put_acceptance(listing, table, d, rows, taken, output, false, 0);
-    if output.len() < size {
+    if !has_room(listing, table, n, d, rows, taken, output) {
         return without_text(ErrorKind::OutputTooShort);
     }
-    put_acceptance(listing, table, d, rows, taken, output, true, 0);
+    let size = put_acceptance(listing, table, n, d, rows, taken, output, true, 0);
     Reported {
         answer: Verdict::Accepted,
         length: size,

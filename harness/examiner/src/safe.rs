@@ -40,7 +40,9 @@ extern "C" {
 /// A call takes up to 1.1 MB of its thread's stack, and nothing checks it: each is made on a thread with this much.
 const STACK: usize = 2 << 20;
 
-/// No report is longer: 32 paths of 32 items with names of 32 bytes.
+/// No report is longer. Each line of an acceptance comes of a line of the listing (`A` of `T`, `D` of `D`, `P` of `P`, `W` of
+/// `L`), of which there are at most 1024. The longest line is `P,31,3,1,1024,`, a name of 32 bytes and byte 10: 47 bytes; a wait
+/// has at most 18, `W,1024,4294967295` and byte 10. So there are at most 1024 * 47 = 48128 bytes. A refusal has at most 49.
 const LONGEST_REPORT: usize = 1 << 16;
 
 /// A refusal: its number and its place.
@@ -90,7 +92,8 @@ pub fn check(listing: &[u8]) -> Result<(), Refusal> {
     answered(answer)
 }
 
-/// The same, and the text of the report: an acceptance with the items of each path, or the refusal.
+/// The same, and the text of the report: an acceptance with the items of each path and, after them, the number that the script
+/// carries for each wait; or the refusal.
 pub fn report(listing: &[u8]) -> (Vec<u8>, Result<(), Refusal>) {
     let (mut text, mut answer) = (vec![0; LONGEST_REPORT], [0; 5]);
     let (output, words) = (&mut text[..], &mut answer);
@@ -174,7 +177,16 @@ impl Rehearsal {
         // SAFETY: as above; the name has the length given, and may be a part of the listing, which is only read.
         self.call(listing, |Words { rehearsal, due, answer }| unsafe {
             let (rehearsal, due, answer) = (rehearsal.as_mut_ptr(), due.as_mut_ptr(), answer.as_mut_ptr());
-            bithoven_rehearse_lay(listing.as_ptr(), listing.len(), name.as_ptr(), name.len(), ty as u32, rehearsal, due, answer)
+            bithoven_rehearse_lay(
+                listing.as_ptr(),
+                listing.len(),
+                name.as_ptr(),
+                name.len(),
+                ty as u32,
+                rehearsal,
+                due,
+                answer,
+            )
         })
     }
 
@@ -230,6 +242,31 @@ mod tests {
     fn an_acceptance() {
         assert_eq!(check(ACCEPTED), Ok(()));
         assert_eq!(report(ACCEPTED), (b"A,1\nD,0,0\n".to_vec(), Ok(())));
+    }
+
+    /// A wait of each op; `last` is the op and the operand of the third.
+    fn with_waits(last: &str) -> Vec<u8> {
+        let waits = format!("L,1,2,1,0,0,4294967295\nL,3,4,2,0,1,144\nL,5,6,3,0,{last}\n");
+        format!("T,0,1\nD,0\nB,4\n{waits}E,7,8,4,0\nb,7,8,4,0,1\n").into_bytes()
+    }
+
+    #[test]
+    fn waits() {
+        let text = b"A,1\nD,0,0\nW,4,4294967295\nW,5,144\nW,6,4259839\n";
+        assert_eq!(report(&with_waits("2,65535")), (text.to_vec(), Ok(())));
+        let refusal = Refusal { number: 21, start: 5, end: 6, line: 3, column: 0 };
+        assert_eq!(report(&with_waits("2,65536")), (b"R,21,5,6,3,0\n".to_vec(), Err(refusal)));
+        assert_eq!(check(&with_waits("2,-1")), Err(refusal));
+        assert_eq!(check(&with_waits("3,0")).map_err(|r| (r.number, r.line)), Err((2, 6)));
+    }
+
+    /// As many lines as there can be, all waits but five.
+    #[test]
+    fn a_report_of_many_waits() {
+        let waits = "L,0,0,0,0,0,4294967295\n".repeat(1019);
+        let listing = format!("T,0,1\nD,0\nB,1020\n{waits}E,0,0,0,0\nb,0,0,0,0,1\n");
+        let due: String = (4..1023).map(|line| format!("W,{line},4294967295\n")).collect();
+        assert_eq!(report(listing.as_bytes()), (format!("A,1\nD,0,0\n{due}").into_bytes(), Ok(())));
     }
 
     #[test]

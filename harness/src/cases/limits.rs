@@ -13,7 +13,7 @@ pub fn add(suite: &mut Suite) {
 }
 
 /// A wait alone, after a verify, in an if-block, in an else-block.
-fn wait_case(suite: &mut Suite, label: &str, op: u8, operand: i64, turn: usize) {
+pub(super) fn wait_case(suite: &mut Suite, label: &str, op: u8, operand: i64, turn: usize) {
     let fails = !label.starts_with("0@");
     let it = if fails { wait(op, operand).here() } else { wait(op, operand) };
     let yes = || returns(b(true));

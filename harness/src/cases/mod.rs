@@ -3,6 +3,8 @@
 mod flow;
 mod keys;
 mod limits;
+#[cfg(feature = "examiner")]
+mod op_2;
 mod order;
 mod passing;
 mod paths;
@@ -12,7 +14,7 @@ mod usage;
 
 use crate::case::Suite;
 
-/// All of them, in a fixed order.
+/// All that the original can be asked about, in a fixed order.
 pub fn add_all(suite: &mut Suite) {
     flow::add(suite);
     usage::add(suite);
@@ -23,4 +25,10 @@ pub fn add_all(suite: &mut Suite) {
     limits::add(suite);
     order::add(suite);
     passing::add(suite);
+}
+
+/// Those with waits of op 2.
+#[cfg(feature = "examiner")]
+pub fn add_op_2(suite: &mut Suite) {
+    op_2::add(suite);
 }

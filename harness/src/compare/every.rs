@@ -1,5 +1,5 @@
-//! One short contract that has all 21 forms of a line, with every byte changed in every way: replaced by each of the 256
-//! values, left out, doubled, and the listing cut off there.
+//! One short contract that has all 21 forms of a line, and one with waits of each op, with every byte changed in every way:
+//! replaced by each of the 256 values, left out, doubled, and the listing cut off there.
 
 use crate::keys;
 use crate::make::*;
@@ -16,8 +16,12 @@ pub struct EveryByte {
 const WAYS: usize = 259;
 
 impl EveryByte {
-    pub fn new() -> EveryByte {
+    pub fn of_all_forms() -> EveryByte {
         EveryByte { listing: writer::write(&all_forms()), done: 0 }
+    }
+
+    pub fn of_waits() -> EveryByte {
+        EveryByte { listing: writer::write(&waits()), done: 0 }
     }
 }
 
@@ -39,7 +43,7 @@ impl Iterator for EveryByte {
     }
 }
 
-/// A good contract with every form, and locations of one digit.
+/// A good contract with every form.
 fn all_forms() -> Contract {
     let key = || s("79be667ef9dcbbac55a06295ce870b07029bfcdb2dce28d959f2815b16f81798");
     let shared = [(BOOLEAN, "c"), (SIGNATURE, "s"), (SIGNATURE, "t")];
@@ -50,8 +54,19 @@ fn all_forms() -> Contract {
     let then = vec![verify(compare(GREATER, sum, n(-7))), returns(equal(sha(v("p")), s("\u{e4}")))];
     let otherwise = vec![older(9), returns(not(b(false)))];
     let condition = and(or(v("c"), b(true)), and(check(v("s"), key()), two));
-    let mut whole =
-        contract(TAPROOT, vec![from_top(&first), from_top(&shared)], vec![after(12), if_else(condition, then, otherwise)]);
+    let statements = vec![after(12), if_else(condition, then, otherwise)];
+    finished(contract(TAPROOT, vec![from_top(&first), from_top(&shared)], statements))
+}
+
+/// A good contract with waits of each op, one of op 2 in each block.
+fn waits() -> Contract {
+    let yes = || returns(b(true));
+    let fork = if_else(b(false), vec![older(7), csv_time(65535), yes()], vec![after(90), csv_time(0), yes()]);
+    finished(contract(LEGACY, vec![vec![], vec![]], vec![csv_time(8), older(12), after(4), fork]))
+}
+
+/// The contract with marks, and locations of one digit.
+fn finished(mut whole: Contract) -> Contract {
     let mut count = 0;
     let mut next = || {
         count += 1;
@@ -66,15 +81,23 @@ fn all_forms() -> Contract {
 #[cfg(test)]
 mod tests {
     use super::*;
+    use crate::compare::question::{ask, How};
     use crate::oracle::{self, Answer};
 
     /// The contract has all forms and is accepted.
     #[test]
     fn is_good() {
-        let listing = EveryByte::new().listing;
+        let listing = EveryByte::of_all_forms().listing;
         let contract = crate::listing::read(&listing).unwrap();
         assert_eq!(oracle::answer(&contract), Answer::Accepted);
         let text = String::from_utf8(listing).unwrap();
         assert!("TDPBILVEvnbslcmuhzgSM".chars().all(|form| text.lines().any(|line| line.starts_with(form))), "{text}");
+    }
+
+    /// The other is accepted too, with op 1 in place of op 2.
+    #[test]
+    fn waits_are_good() {
+        let contract = crate::listing::read(&EveryByte::of_waits().listing).unwrap();
+        assert_eq!(ask(&contract), (Some(Answer::Accepted), How::Op1ForOp2));
     }
 }

@@ -7,7 +7,7 @@ use super::shapes;
 use crate::case::{Aim, Case, Suite};
 use crate::rng::Rng;
 use crate::tree::*;
-use crate::{aimed, cases, deep, embed, good, keys, make, mutate, writer};
+use crate::{aimed, cases, deep, embed, good, keys, make, mutate, seconds, writer};
 use std::collections::VecDeque;
 
 /// A listing, where it comes from, and what a made case expects of it.
@@ -24,14 +24,21 @@ pub struct Inputs {
     /// The cases made by hand, to be damaged.
     by_hand: Vec<Vec<u8>>,
     every_byte: EveryByte,
+    /// The same of a contract with waits of each op.
+    every_wait: EveryByte,
 }
+
+/// So many in a hundred contracts get waits of op 2.
+const WITH_OP_2: usize = 25;
 
 impl Inputs {
     pub fn new(seed: u64) -> Inputs {
         let mut suite = Suite::new(seed);
         cases::add_all(&mut suite);
+        cases::add_op_2(&mut suite);
         embed::fill(&mut suite);
-        let mut inputs = Inputs { suite, ready: VecDeque::new(), by_hand: vec![], every_byte: EveryByte::new() };
+        let (every_byte, every_wait) = (EveryByte::of_all_forms(), EveryByte::of_waits());
+        let mut inputs = Inputs { suite, ready: VecDeque::new(), by_hand: vec![], every_byte, every_wait };
         inputs.take_cases("made by hand");
         inputs.by_hand = inputs.ready.iter().map(|input| input.listing.clone()).collect();
         deep::add(&mut inputs.suite);
@@ -63,23 +70,42 @@ impl Inputs {
     fn round(&mut self) {
         let size = shapes::some_size(&mut self.suite.rng);
         aimed::add_round(&mut self.suite, size);
+        self.with_op_2();
+        seconds::add_fault(&mut self.suite, size);
         self.take_cases("one known fault");
         for _ in 0..8 {
             let contract = good::contract(&mut self.suite.rng, size);
             self.suite.add_whole("0@random-good", contract, false);
         }
+        self.with_op_2();
         self.take_cases("good");
         self.changed(size);
         self.damaged(size);
         self.marked(size);
         self.not_utf8(size);
         self.at_ceilings();
-        let some: Vec<Vec<u8>> = self.every_byte.by_ref().take(20).collect();
+        let some: Vec<Vec<u8>> = self.every_byte.by_ref().take(22).collect();
         some.into_iter().for_each(|listing| self.push("every byte of one contract", listing));
+        let some: Vec<Vec<u8>> = self.every_wait.by_ref().take(8).collect();
+        some.into_iter().for_each(|listing| self.push("every byte of one with waits", listing));
+    }
+
+    /// Puts waits of op 2 into some of the suite's cases. Their answers stay, at the same nodes.
+    fn with_op_2(&mut self) {
+        let Suite { rng, cases, .. } = &mut self.suite;
+        for case in cases {
+            if rng.chance(WITH_OP_2) {
+                seconds::put_in(rng, &mut case.contract);
+                make::place(&mut case.contract);
+            }
+        }
     }
 
     fn good(&mut self, size: good::Size) -> Contract {
         let mut contract = good::contract(&mut self.suite.rng, size);
+        if self.suite.rng.chance(WITH_OP_2) {
+            seconds::put_in(&mut self.suite.rng, &mut contract);
+        }
         make::place(&mut contract);
         keys::set_marks(&mut contract);
         contract
@@ -90,6 +116,9 @@ impl Inputs {
         for _ in 0..20 {
             let mut contract = good::contract(&mut self.suite.rng, size);
             mutate::mutate(&mut self.suite.rng, &mut contract);
+            if self.suite.rng.chance(WITH_OP_2) {
+                seconds::change(&mut self.suite.rng, &mut contract);
+            }
             make::place(&mut contract);
             if self.suite.rng.chance(5) {
                 wild_locations(&mut self.suite.rng, &mut contract);

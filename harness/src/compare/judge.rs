@@ -3,6 +3,7 @@
 use super::order;
 use super::question::{self, How};
 use super::stack;
+use super::twin;
 use crate::listing;
 use crate::oracle::Answer;
 use crate::tree::{Contract, Where};
@@ -27,6 +28,8 @@ pub enum About {
     ShortOutput,
     /// Name on every item, past them, and on a listing that is refused.
     Name,
+    /// Check and Report with op 1 in place of op 2.
+    Op2,
 }
 
 /// Two answers that should be one.
@@ -42,6 +45,8 @@ pub struct Seen {
     pub number: u32,
     /// How the original was asked; nothing if the listing cannot be read.
     pub how: Option<How>,
+    /// How many `W` lines the report has.
+    pub waits: usize,
 }
 
 /// What a made case expects: its number, and its place if it names one.
@@ -50,7 +55,7 @@ pub type Due = (u8, Option<Where>);
 /// Pretends that the original never answers this number, to see that a disagreement is found.
 pub type Plant = Option<u8>;
 
-fn disagree<T>(about: About, text: String) -> Result<T, Disagreement> {
+pub fn disagree<T>(about: About, text: String) -> Result<T, Disagreement> {
     Err(Disagreement { about, text })
 }
 
@@ -76,7 +81,11 @@ pub fn judge(listing: &[u8], due: Option<Due>, plant: Plant) -> Result<Seen, Dis
     };
     reports(listing, &check, &text)?;
     names(listing, &check)?;
-    Ok(Seen { number: check[0], how })
+    if how.is_some_and(How::is_op_2) {
+        twin::holds(listing, &check, &text)?;
+    }
+    let waits = text.split(|&byte| byte == b'\n').filter(|line| line.starts_with(b"W,")).count();
+    Ok(Seen { number: check[0], how, waits })
 }
 
 /// Check's answer is the original's, wherever the original can be asked.
@@ -160,12 +169,10 @@ fn report(listing: &[u8], check: &Numbers, text: &[u8], room: usize) -> Result<(
         expected[..text.len()].copy_from_slice(text);
         (About::Report, (text.len(), *check))
     };
-    if (length, answer) != due {
-        return disagree(about, format!("Report {answer:?}, length {length}\ndue {:?}, length {}", due.1, due.0));
-    }
-    if output != expected {
+    if (length, answer) != due || output != expected {
+        let numbers = format!("Report {answer:?}, length {length}\ndue {:?}, length {}", due.1, due.0);
         let show = |bytes: &[u8]| String::from_utf8_lossy(bytes).into_owned();
-        return disagree(about, format!("Report's output:\n{}\ndue:\n{}", show(&output), show(&expected)));
+        return disagree(about, format!("{numbers}\nReport's output:\n{}\ndue:\n{}", show(&output), show(&expected)));
     }
     Ok(())
 }
@@ -213,5 +220,36 @@ mod tests {
         let expected = "A,2\nD,0,2\nP,0,3,1,10,c\nP,1,2,1,15,p\nD,1,2\nP,0,3,1,10,c\nP,1,1,1,20,n\n";
         assert_eq!(String::from_utf8(text).unwrap(), expected);
         assert!(demand_3(&contract, CONTRACT.as_bytes(), &[14, 0, 0, 1, 0]).is_err());
+    }
+
+    /// Waits of each op before an if, in its if-block and in its else-block, with what the fields hold.
+    fn with_waits(first: &str, second: &str, third: &str) -> String {
+        format!(
+            "T,1,2\nD,1\nP,1,2,3,4,3,c\nD,1\nP,1,2,3,4,3,c\nB,2\nL,1,2,3,4,{first}\nI,1,2,3,4,1\nv,1,2,3,4,c\nB,2\n\
+             L,1,2,3,4,{second}\nE,1,2,3,4\nb,1,2,3,4,1\nB,2\nL,1,2,3,4,{third}\nE,1,2,3,4\nb,1,2,3,4,1\n"
+        )
+    }
+
+    /// Document 02, b: the waits come after the last path, in listing order, op 2 with bit 22.
+    #[test]
+    fn waits_after_the_paths() {
+        let listing = with_waits("2,65535", "0,4294967295", "1,0");
+        let contract = listing::read(listing.as_bytes()).unwrap();
+        let text = demand_3(&contract, listing.as_bytes(), &[0; 5]).unwrap();
+        let paths = "A,2\nD,0,1\nP,0,3,1,9,c\nD,1,1\nP,0,3,1,9,c\n";
+        let expected = format!("{paths}W,7,4259839\nW,11,4294967295\nW,15,0\n");
+        assert_eq!(String::from_utf8(text).unwrap(), expected);
+    }
+
+    /// Op 2 is from 0 to 65535, and the original says so where op 1 stands in its place.
+    #[test]
+    fn bounds_of_op_2() {
+        for (operand, accepted) in [(0, true), (1, true), (65535, true), (65536, false), (-1, false), (4194304, false)] {
+            let listing = with_waits("0,1", "1,2", &format!("2,{operand}"));
+            let contract = listing::read(listing.as_bytes()).unwrap();
+            let check = if accepted { [0; 5] } else { [21, 1, 2, 3, 4] };
+            assert!(demand_3(&contract, listing.as_bytes(), &check).is_ok(), "{operand}");
+            assert_eq!(original(&contract, &check, None).unwrap(), How::Op1ForOp2);
+        }
     }
 }

@@ -5,10 +5,11 @@ mod every;
 pub mod inputs;
 pub mod judge;
 mod order;
-mod question;
+pub mod question;
 pub mod shapes;
 mod shrink;
 pub mod stack;
+mod twin;
 
 use crate::oracle::STACK;
 use inputs::{Input, Inputs};
@@ -74,6 +75,10 @@ struct Totals {
     asked: BTreeMap<How, usize>,
     /// Listings whose number and place were known beforehand.
     known: usize,
+    /// Listings with a wait of op 2 that are accepted.
+    accepted_op_2: usize,
+    /// `W` lines of all reports.
+    waits: usize,
 }
 
 impl Totals {
@@ -88,7 +93,9 @@ impl Totals {
         if let Some(how) = seen.how {
             *self.asked.entry(how).or_default() += 1;
             self.known += usize::from(input.due.is_some());
+            self.accepted_op_2 += usize::from(how.is_op_2() && seen.number == 0);
         }
+        self.waits += seen.waits;
     }
 
     fn by_number(&self) -> String {
@@ -105,15 +112,7 @@ impl Totals {
             text += &format!("{class}: {count}\n");
         }
         text += "\n";
-        let asked = |how: How| self.asked.get(&how).copied().unwrap_or(0);
-        let read: usize = self.asked.values().sum();
-        text += &format!("cannot be read, held against listing.rs: {}\n", self.count - read);
-        text += &format!("held against the original as it is: {}\n", asked(How::Plain));
-        text += &format!("with its key test answered from the marks: {}\n", asked(How::ByMarks));
-        text += &format!("with other literals for those not UTF-8: {}\n", asked(How::OtherLiterals));
-        text += &format!("not held against it, one key with both marks: {}\n", asked(How::TwoMarks));
-        text += &format!("not held against it, one byte not UTF-8 under size: {}\n", asked(How::OneByte));
-        text += &format!("also held against a number known beforehand: {}\n", self.known);
+        text += &self.by_reason();
         let distinct = self.distinct.len();
         text + &format!(
             "\n{} listings, {distinct} of them different, {} bytes, {} s: no disagreement",
@@ -121,5 +120,22 @@ impl Totals {
             self.bytes,
             time.as_secs()
         )
+    }
+
+    /// What each listing was held against, and why not against the original as it is.
+    fn by_reason(&self) -> String {
+        let asked = |how: How| self.asked.get(&how).copied().unwrap_or(0);
+        let read: usize = self.asked.values().sum();
+        let mut text = format!("cannot be read, held against listing.rs: {}\n", self.count - read);
+        text += &format!("held against the original as it is: {}\n", asked(How::Plain));
+        text += &format!("with its key test answered from the marks: {}\n", asked(How::ByMarks));
+        text += &format!("with other literals for those not UTF-8: {}\n", asked(How::OtherLiterals));
+        text += &format!("not held against it, one key with both marks: {}\n", asked(How::TwoMarks));
+        text += &format!("not held against it, one byte not UTF-8 under size: {}\n", asked(How::OneByte));
+        let op_2 = asked(How::Op1ForOp2) + asked(How::Op2Unasked);
+        text += &format!("not held against it, op 2: {op_2}, {} of them accepted, ", self.accepted_op_2);
+        text += &format!("{} held against it with op 1 in place of op 2\n", asked(How::Op1ForOp2));
+        text += &format!("also held against a number known beforehand: {}\n", self.known);
+        text + &format!("lines W of reports: {}\n", self.waits)
     }
 }

@@ -1,7 +1,7 @@
 //! What demand 3 asks for besides the stack: flow, path count, distinct names, types, limits. Each is yes or no.
 //!
-//! Written after document 01 ("The stack of demand 3" and the rules it names), on the tree of listing.rs. It shares
-//! nothing with the oracle or the examiner, and it has no order of faults and no locations.
+//! Written after document 01 ("The stack of demand 3" and the rules it names) and document 02 (b), on the tree of listing.rs.
+//! It shares nothing with the oracle or the examiner, and it has no order of faults and no locations.
 
 use crate::keys;
 use crate::tree::*;
@@ -41,7 +41,7 @@ pub fn types_and_limits(contract: &Contract) -> bool {
 /// The statements of a block whose lowest-numbered path is `path`. Ends with `path` at the one that comes after the block.
 fn statements(contract: &Contract, block: &Node, path: &mut usize) -> bool {
     block.parts.iter().all(|statement| match &statement.form {
-        Form::Wait(op, operand) => (0..=if *op == OLDER { 65535 } else { 4294967295 }).contains(operand),
+        Form::Wait(op, operand) => (0..=if *op == AFTER { 4294967295 } else { 65535 }).contains(operand),
         Form::Verify => root(contract, &statement.parts[0], *path),
         Form::Return => {
             *path += 1;

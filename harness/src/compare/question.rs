@@ -5,6 +5,9 @@
 //! - Literals that are not UTF-8. The rules read three things of a literal that is no hex: its bytes' count, that it is no
 //!   hex, and whether it is ASCII. So the original gets another literal of as many bytes that is no hex and not ASCII.
 //!   Only a single byte has no such stand-in; it becomes one ASCII letter, which fails where it stands under size.
+//! - Waits of op 2. It has none. The rules read an op only for the bounds of its operand, and op 2 has those of op 1, 0 to
+//!   65535. So the original gets op 1 in its place, and its answer must be the same: accepted, or the same refusal at the same
+//!   place. These listings are no agreement with the original as it is, so they are counted apart.
 
 use crate::keys;
 use crate::oracle::{self, Answer};
@@ -26,10 +29,45 @@ pub enum How {
     TwoMarks,
     /// Not at all: a literal of one byte, not UTF-8, stands under size.
     OneByte,
+    /// With op 1 in place of op 2; the rest as above.
+    Op1ForOp2,
+    /// Not at all: it has op 2, and one key has both marks, or a literal of one byte stands under size.
+    Op2Unasked,
+}
+
+impl How {
+    /// Has the listing a wait of op 2?
+    pub fn is_op_2(self) -> bool {
+        matches!(self, How::Op1ForOp2 | How::Op2Unasked)
+    }
 }
 
 /// The original's answer, or nothing if it cannot be asked; and how it was asked.
 pub fn ask(contract: &Contract) -> (Option<Answer>, How) {
+    let Some(with_op_1) = with_op_1(contract) else {
+        return ask_in_blocks(contract);
+    };
+    match ask_in_blocks(&with_op_1) {
+        (None, _) => (None, How::Op2Unasked),
+        (answer, _) => (answer, How::Op1ForOp2),
+    }
+}
+
+/// The contract with op 1 in place of op 2; nothing if no wait has op 2.
+fn with_op_1(contract: &Contract) -> Option<Contract> {
+    let mut other = contract.clone();
+    let mut found = false;
+    other.block.each_mut(&mut |node| {
+        if let Form::Wait(op @ CSV_TIME, _) = &mut node.form {
+            *op = OLDER;
+            found = true;
+        }
+    });
+    found.then_some(other)
+}
+
+/// As `ask`, where no wait has op 2.
+fn ask_in_blocks(contract: &Contract) -> (Option<Answer>, How) {
     let marks = match marks(contract) {
         Some(marks) => marks,
         None => return (None, How::TwoMarks),

@@ -4,6 +4,7 @@ use crate::good::{self, Size};
 use crate::keys;
 use crate::make::*;
 use crate::rng::Rng;
+use crate::seconds;
 use crate::tree::*;
 use crate::walk::walk;
 use crate::writer;
@@ -48,6 +49,9 @@ fn grown(rng: &mut Rng, past: bool) -> Contract {
     place(&mut contract);
     if last == 8 {
         pad_bytes(rng, &mut contract, MOST_BYTES + over);
+    }
+    if rng.chance(50) {
+        seconds::turn(rng, &mut contract);
     }
     keys::set_marks(&mut contract);
     contract
@@ -200,12 +204,20 @@ fn pad_lines(rng: &mut Rng, contract: &mut Contract, count: usize) {
         let run = (1 + rng.below(60)).min(missing);
         for _ in 0..run {
             let short = missing == 1 || rng.chance(60);
-            parts.insert(place, if short { after(rng.between(0, 99999)) } else { verify(b(true)) });
+            parts.insert(place, if short { some_wait(rng) } else { verify(b(true)) });
             missing -= if short { 1 } else { 2 };
             if missing == 0 {
                 break;
             }
         }
+    }
+}
+
+fn some_wait(rng: &mut Rng) -> Node {
+    if rng.chance(50) {
+        after(rng.between(0, 99999))
+    } else {
+        older(rng.between(0, 65535))
     }
 }
 

@@ -64,8 +64,8 @@ fn variables(contract: &Contract) -> HashSet<String> {
 }
 
 /// All single steps: an item or declaration less, a statement less, a node replaced by a part or by a truth, an if by one of
-/// its blocks (with or without a declaration less), a literal or number cut, the locations made small. Each is tried with
-/// and without the items whose last variable it takes away.
+/// its blocks (with or without a declaration less), a literal, number or operand cut, the locations made small. Each is tried
+/// with and without the items whose last variable it takes away.
 fn changes(contract: &Contract) -> Vec<Change> {
     let mut found: Vec<Change> = vec![Box::new(place)];
     let ways = contract.block.ways(&|_| true, &|_| true);
@@ -135,6 +135,11 @@ fn node_changes(contract: &Contract, way: &[usize], found: &mut Vec<Change>) {
             _ => {}
         }
     }
+    form_changes(node, way, found);
+}
+
+/// Changes of a node's own form, or a truth in place of an expression.
+fn form_changes(node: &Node, way: &[usize], found: &mut Vec<Change>) {
     match &node.form {
         Form::Literal(bytes, _) if !bytes.is_empty() => {
             found.push(at(way, |node| cut_literal(node, 0)));
@@ -142,6 +147,10 @@ fn node_changes(contract: &Contract, way: &[usize], found: &mut Vec<Change>) {
             found.push(at(way, |node| cut_literal(node, 1)));
         }
         Form::Number(value) if *value != 0 => found.push(at(way, |node| node.form = Form::Number(0))),
+        Form::Wait(op, operand) if *operand != 0 => {
+            let op = *op;
+            found.push(at(way, move |node| node.form = Form::Wait(op, 0)));
+        }
         Form::Boolean(_) => {}
         _ if is_expression(node) => found.push(at(way, |node| *node = b(true))),
         _ => {}

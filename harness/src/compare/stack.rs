@@ -1,7 +1,7 @@
 //! The stack of demand 3, and the report of an accepted listing, both from the lines of the text alone.
 //!
 //! This shares nothing with listing.rs, the oracle or the examiner. It only wants a listing that can be read and that
-//! passes flow; it knows names and line numbers, no tables and no taken positions.
+//! passes flow; it knows names, waits and line numbers, no tables and no taken positions.
 
 use std::fmt::Write;
 
@@ -18,6 +18,13 @@ struct Item<'a> {
     name: &'a str,
 }
 
+/// A wait: its line in the listing, counted from 1, its op and its operand, as the line spells them.
+struct Wait<'a> {
+    line: usize,
+    op: &'a str,
+    operand: &'a str,
+}
+
 /// An item of an accepted listing: its name, its type, and where the name stands: how many bytes precede it, and its length.
 #[derive(Clone, Debug, PartialEq, Eq)]
 pub struct Shown {
@@ -26,12 +33,14 @@ pub struct Shown {
     pub place: [u32; 2],
 }
 
-/// What the text says of declarations and paths.
+/// What the text says of declarations, paths and waits.
 pub struct Paths<'a> {
     /// First declared first.
     declarations: Vec<Vec<Item<'a>>>,
     /// For each path, in order, what it meets, in order.
     met: Vec<Vec<Met<'a>>>,
+    /// In the order of their lines.
+    waits: Vec<Wait<'a>>,
 }
 
 /// The lines of a listing, and how many are behind us.
@@ -40,6 +49,8 @@ struct Lines<'a> {
     passed: usize,
     /// The paths that have ended.
     ended: Vec<Vec<Met<'a>>>,
+    /// The waits that were passed.
+    waits: Vec<Wait<'a>>,
 }
 
 /// Where the fields stand that are read here. `w` takes fields 1 to 4.
@@ -49,17 +60,19 @@ const TYPE: usize = 5;
 const ITEM_NAME: usize = 6;
 const VARIABLE_NAME: usize = 5;
 const ELSE: usize = 5;
+const WAIT_OP: usize = 5;
+const OPERAND: usize = 6;
 const FACTORS: usize = 6;
 
 /// Reads declarations and paths from the text of a listing that can be read and passes flow.
 pub fn paths(listing: &[u8]) -> Paths<'_> {
     let text = std::str::from_utf8(listing).expect("a listing that can be read is ASCII");
     let all = text.lines().map(|line| line.split(',').collect()).collect();
-    let mut lines = Lines { all, passed: 0, ended: vec![] };
+    let mut lines = Lines { all, passed: 0, ended: vec![], waits: vec![] };
     let head = lines.next();
     let declarations = (0..number(head[DECLARATIONS])).map(|_| lines.declaration()).collect();
     lines.block(vec![]);
-    Paths { declarations, met: lines.ended }
+    Paths { declarations, met: lines.ended, waits: lines.waits }
 }
 
 fn number(field: &str) -> usize {
@@ -83,7 +96,7 @@ impl<'a> Lines<'a> {
         for _ in 0..number(self.next()[COUNT]) {
             let line = self.next();
             match line[0] {
-                "L" => {}
+                "L" => self.waits.push(Wait { line: self.passed, op: line[WAIT_OP], operand: line[OPERAND] }),
                 "V" => self.expression(Some(&mut met)),
                 "E" => {
                     self.expression(Some(&mut met));
@@ -165,7 +178,7 @@ impl Paths<'_> {
     }
 
     /// The report, if the listing is accepted: every path empties its stack, so the item at a position is the one that is
-    /// met so many variables later.
+    /// met so many variables later. The waits come last.
     pub fn report(&self) -> Vec<u8> {
         let mut text = format!("A,{}\n", self.count());
         for (path, (items, met)) in self.declarations.iter().zip(&self.met).enumerate() {
@@ -174,7 +187,22 @@ impl Paths<'_> {
                 writeln!(text, "P,{position},{},1,{},{}", item.kind, met.line, item.name).unwrap();
             }
         }
+        for wait in &self.waits {
+            writeln!(text, "W,{},{}", wait.line, wait.number()).unwrap();
+        }
         text.into_bytes()
+    }
+}
+
+impl Wait<'_> {
+    /// The number that the script carries. BIP 68: bit 22 says that the sixteen bits below count 512 seconds.
+    fn number(&self) -> u64 {
+        let operand: u64 = self.operand.parse().unwrap();
+        if self.op == "2" {
+            operand | 1 << 22
+        } else {
+            operand
+        }
     }
 }
 

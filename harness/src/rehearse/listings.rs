@@ -4,9 +4,10 @@ use super::model::Known;
 use crate::compare::damage::damage;
 use crate::compare::inputs::{Input, Inputs};
 use crate::compare::judge::judge;
+use crate::compare::question::How;
 use crate::compare::{shapes, stack};
 use crate::rng::Rng;
-use crate::{good, keys, make, writer};
+use crate::{good, keys, make, seconds, writer};
 use std::rc::Rc;
 
 /// So many earlier listings are kept, to be lent in place of the one opened.
@@ -39,6 +40,9 @@ impl Listings {
             0..=3 => {
                 let size = shapes::some_size(rng);
                 let mut contract = good::contract(rng, size);
+                if rng.chance(30) {
+                    seconds::put_in(rng, &mut contract);
+                }
                 make::place(&mut contract);
                 keys::set_marks(&mut contract);
                 Input { class: "good", listing: writer::write(&contract), due: None }
@@ -68,13 +72,13 @@ impl Listings {
 /// Check's answer and the items of each path, once `compare` has held the listing against the original and its models.
 fn know(input: Input) -> Result<Known, String> {
     let listing = input.listing;
-    if let Err(found) = judge(&listing, input.due, None) {
+    let seen = judge(&listing, input.due, None).map_err(|found| {
         let text = String::from_utf8_lossy(&listing);
-        return Err(format!("run compare: disagreement about {:?}\n{}\n--- the listing\n{text}", found.about, found.text));
-    }
+        format!("run compare: disagreement about {:?}\n{}\n--- the listing\n{text}", found.about, found.text)
+    })?;
     let (_, check) = examiner::check(&listing);
     let paths = if check[0] == 0 { stack::paths(&listing).shown(&listing) } else { vec![] };
-    Ok(Known { class: input.class, listing, check, paths })
+    Ok(Known { class: input.class, listing, check, paths, op_2: seen.how.is_some_and(How::is_op_2) })
 }
 
 /// One field that is a number has another one: most are locations, so the listing is as good as before and its names stand
@@ -83,7 +87,7 @@ fn other_number(rng: &mut Rng, listing: &[u8]) -> Vec<u8> {
     let mut fields: Vec<Vec<u8>> = listing.split(|&byte| byte == b',').map(<[u8]>::to_vec).collect();
     let numbers: Vec<usize> = (0..fields.len()).filter(|&k| fields[k].iter().all(u8::is_ascii_digit)).collect();
     if !numbers.is_empty() {
-        fields[numbers[rng.below(numbers.len())]] = rng.pick(&[0, 3, 70, 123456]).to_string().into_bytes();
+        fields[numbers[rng.below(numbers.len())]] = rng.pick(&[0, 2, 3, 70, 123456]).to_string().into_bytes();
     }
     fields.join(&b','.to_owned())
 }

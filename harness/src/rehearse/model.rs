@@ -10,6 +10,8 @@ pub struct Known {
     pub listing: Vec<u8>,
     pub check: Numbers,
     pub paths: Vec<Vec<Shown>>,
+    /// Has it a wait of op 2?
+    pub op_2: bool,
 }
 
 #[derive(Clone, Debug, PartialEq, Eq)]
@@ -120,7 +122,8 @@ mod tests {
     /// One path of two items, a (3) and then b (1).
     fn known() -> Known {
         let item = |name: &str, kind, at| Shown { name: name.as_bytes().to_vec(), kind, place: [at, 1] };
-        Known { class: "", listing: vec![], check: [0; 5], paths: vec![vec![item("a", 3, 9), item("b", 1, 5)]] }
+        let paths = vec![vec![item("a", 3, 9), item("b", 1, 5)]];
+        Known { class: "", listing: vec![], check: [0; 5], paths, op_2: false }
     }
 
     fn lay(name: &str, kind: u32) -> Call {

@@ -22,6 +22,8 @@ pub struct Totals {
     other: usize,
     listings: usize,
     accepted: usize,
+    /// Accepted listings with a wait of op 2.
+    accepted_op_2: usize,
     distinct: HashSet<u64>,
     classes: BTreeMap<&'static str, usize>,
 }
@@ -30,6 +32,7 @@ impl Totals {
     pub fn add_listing(&mut self, known: &Known) {
         self.listings += 1;
         self.accepted += usize::from(known.check[0] == 0);
+        self.accepted_op_2 += usize::from(known.check[0] == 0 && known.op_2);
         let mut hasher = DefaultHasher::new();
         known.listing.hash(&mut hasher);
         self.distinct.insert(hasher.finish());
@@ -76,11 +79,12 @@ impl Totals {
             text += &format!("{class}: {count}\n");
         }
         text + &format!(
-            "\n{} calls on {} listings, {} of them different, {} accepted, {} s: no disagreement",
+            "\n{} calls on {} listings, {} of them different, {} accepted, {} of these with op 2, {} s: no disagreement",
             self.calls,
             self.listings,
             self.distinct.len(),
             self.accepted,
+            self.accepted_op_2,
             time.as_secs()
         )
     }

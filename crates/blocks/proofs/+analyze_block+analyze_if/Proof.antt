@@ -17,7 +17,7 @@ use Rattle.reader.proofs.Agree.{expression-on, statement-on, block-on}
 use Rattle.nodes.specs.Stands.{StatementAt, BlockAt}
 use Rattle.nodes.proofs.Laws.{below, statement-is, block-is, statement-holds, block-holds}
 use Rattle.rules.specs.Result.{ok}
-use Rattle.rules.specs.Walk.{walkStatement, walk}
+use Rattle.tables.specs.Held.{statementHeld, walkHeld}
 use Rattle.paths.specs.Path.{tableOf}
 use Rattle.statements.specs.declared.Step.{Step}
 use Rattle.statements.specs.Steps.{tablesWith, InUse, OnPath, Told, examined, rowAfter}
@@ -108,7 +108,7 @@ analyze-if-calls t = (
 
 abbrev analyze-block-Inv-loop : analyze-block-lts.InvT-loop
 analyze-block-Inv-loop listing table d i path₀ taken₀ out₀ rows₀ count next₀ k₀ path taken out rows next k =
-    (k ≤ count) × Ready listing table d rows taken × (length out ≡ 7) × (i < next) × InUse listing table d (branchIn out) path × ((b : Block) (j : ℕ) → SpellsBlock (lineIn table) listing i b j → Going (lineIn table) listing (d .target) (count - k) next j (walk b (d .target) (tablesWith listing table d rows₀ taken₀ (branchIn out₀) path₀) (branchIn out₀)) (tablesWith listing table d rows taken (branchIn out) path) (branchIn out))
+    (k ≤ count) × Ready listing table d rows taken × (length out ≡ 7) × (i < next) × InUse listing table d (branchIn out) path × ((b : Block) (j : ℕ) → SpellsBlock (lineIn table) listing i b j → Going (lineIn table) listing (d .target) (count - k) next j (walkHeld b (d .target) (tablesWith listing table d rows₀ taken₀ (branchIn out₀) path₀) (branchIn out₀)) (tablesWith listing table d rows taken (branchIn out) path) (branchIn out))
 
 abbrev analyze-block-μ-loop : analyze-block-lts.MeasureT-loop
 analyze-block-μ-loop listing table d i path₀ taken₀ out₀ rows₀ count next₀ k₀ path taken out rows next k = count - k
@@ -364,7 +364,7 @@ analyze-if-walked :
     let q = c .before .before .before .before .before .before .before .examine-at .result .path in
     let to = c .analyze-block in
     lineIn (a .table .now) (a .i) ≡ Line.Statement (StatementLine.IfStatement (a .loc) h) → (x : Statement) (j : ℕ) → SpellsStatement (lineIn (a .table .now)) (a .listing .now) (a .i) x j →
-    (P : IfParts (lineIn (a .table .now)) (a .listing .now) (a .loc) h (a .i) x j) × Conditioned (a .listing .now) (a .table .now) (a .d) (a .loc) (P .cond) (a .rows) (a .taken .now) (branchIn (a .out .now)) (a .path) q × Moved (a .listing .now) (a .table .now) (a .d) (walk (P .block) (a .d .target) (tablesWith (a .listing .now) (a .table .now) (a .d) (a .rows) (a .taken .now) (branchIn (a .out .now)) q) (branchIn (a .out .now))) (P .end) (to .result) (to .last .1 .1 .1 .1 .1 .1 .0) (to .last .1 .1 .1 .1 .1 .1 .1 .0)
+    (P : IfParts (lineIn (a .table .now)) (a .listing .now) (a .loc) h (a .i) x j) × Conditioned (a .listing .now) (a .table .now) (a .d) (a .loc) (P .cond) (a .rows) (a .taken .now) (branchIn (a .out .now)) (a .path) q × Moved (a .listing .now) (a .table .now) (a .d) (walkHeld (P .block) (a .d .target) (tablesWith (a .listing .now) (a .table .now) (a .d) (a .rows) (a .taken .now) (branchIn (a .out .now)) q) (branchIn (a .out .now))) (P .end) (to .result) (to .last .1 .1 .1 .1 .1 .1 .0) (to .last .1 .1 .1 .1 .1 .1 .1 .0)
 analyze-if-walked t c line x j sp =
     let a = c .before .before .before .before .before .before .before .before .before .before .before .args in
     let p = analyze-if-passed t (c .before .before .before .before .before) line x j sp in
@@ -391,7 +391,7 @@ analyze-if-left :
     (t₀ : ℕ) (c : analyze-if-lts.Else2 (analyze-if-calls t₀) (analyze-if-at t₀) analyze-if.Post) →
     let a = c .before .before .before .before .before .before .before .before .before .before .before .before .before .before .args in
     let to = c .before .before .before .analyze-block in
-    ElseLeft (a .listing .now) (a .table .now) (a .d) (a .loc) (a .i) (λ x. walkStatement x (a .d .target) (tablesWith (a .listing .now) (a .table .now) (a .d) (a .rows) (a .taken .now) (branchIn (a .out .now)) (a .path)) (branchIn (a .out .now))) (c .before .before .before .before .before .before .before .before .before .before .examine-at .result .path) (to .result) (to .last .1 .1 .1 .1 .1 .1 .0) (to .last .1 .1 .1 .1 .1 .1 .1 .0)
+    ElseLeft (a .listing .now) (a .table .now) (a .d) (a .loc) (a .i) (λ x. statementHeld x (a .d .target) (tablesWith (a .listing .now) (a .table .now) (a .d) (a .rows) (a .taken .now) (branchIn (a .out .now)) (a .path)) (branchIn (a .out .now))) (c .before .before .before .before .before .before .before .before .before .before .examine-at .result .path) (to .result) (to .last .1 .1 .1 .1 .1 .1 .0) (to .last .1 .1 .1 .1 .1 .1 .1 .0)
 analyze-if-left t₀ c =
     let a = c .before .before .before .before .before .before .before .before .before .before .before .before .before .before .args in
     let s = a .listing .now in

@@ -1,7 +1,7 @@
 use mathlib.Core.Path.{refl, ap, _∙_}
 use borrow.Author.Needs.{needs}
 use lib.ListN.{drop}
-use Rattle.ast.specs.declared.LocktimeOp.the-variants.{Csv}
+use Rattle.ast.specs.declared.LocktimeOp.the-variants.{CsvTime}
 use Rattle.ast.specs.Numbers.{locktimeOps, locktimeNumber}
 use Rattle.text.specs.declared.WordRead.{WordRead}
 use Rattle.text.specs.declared.SignedRead.{SignedRead}
@@ -22,25 +22,25 @@ returns : tie.Need-returns
 returns c =
     let a = c .before .before .before .before .before .args in
     let s = a .listing .now in
-    stores-failed (Line.Statement <$> both (choice locktimeOps) signed (StatementLine.LocktimeStatement (a .w))) s (a .at) (a .i) (a .work .now) (map-failed Line.Statement _ s (a .at) (both-unread (choice locktimeOps) signed (StatementLine.LocktimeStatement (a .w)) s (a .at) (choice-failed locktimeOps s (a .at) (told-failed WordRead.Got WordRead.Failed word-tells (index 2) s (a .at) (c .before .before .read-index .ensures) (c .enum-told .given .1)))))
+    stores-failed (Line.Statement <$> both (choice locktimeOps) signed (StatementLine.LocktimeStatement (a .w))) s (a .at) (a .i) (a .work .now) (map-failed Line.Statement _ s (a .at) (both-unread (choice locktimeOps) signed (StatementLine.LocktimeStatement (a .w)) s (a .at) (choice-failed locktimeOps s (a .at) (told-failed WordRead.Got WordRead.Failed word-tells (index 3) s (a .at) (c .before .before .read-index .ensures) (c .enum-told .given .1)))))
 
 returns-2 : tie.Need-returns-2
 returns-2 c =
     let a = c .before .before .before .before .before .before .before .before .before .args in
     let s = a .listing .now in
-    let o = told-got WordRead.Got WordRead.Failed word-tells (index 2) (index-keeps 2) s (a .at) (c .before .before .before .before .before .before .read-index .ensures) (c .before .before .before .before .op .given .1) in
-    stores-failed (Line.Statement <$> both (choice locktimeOps) signed (StatementLine.LocktimeStatement (a .w))) s (a .at) (a .i) (a .work .now) (map-failed Line.Statement _ s (a .at) (both-half (choice locktimeOps) signed (StatementLine.LocktimeStatement (a .w)) s (a .at) (choice-got locktimeOps s (a .at) Csv o) (told-failed SignedRead.Got SignedRead.Failed signed-tells signed s _ (c .before .before .read-signed .ensures) (c .enum-told2 .given .1))))
+    let o = told-got WordRead.Got WordRead.Failed word-tells (index 3) (index-keeps 3) s (a .at) (c .before .before .before .before .before .before .read-index .ensures) (c .before .before .before .before .op .given .1) in
+    stores-failed (Line.Statement <$> both (choice locktimeOps) signed (StatementLine.LocktimeStatement (a .w))) s (a .at) (a .i) (a .work .now) (map-failed Line.Statement _ s (a .at) (both-half (choice locktimeOps) signed (StatementLine.LocktimeStatement (a .w)) s (a .at) (choice-got locktimeOps s (a .at) CsvTime o) (told-failed SignedRead.Got SignedRead.Failed signed-tells signed s _ (c .before .before .read-signed .ensures) (c .enum-told2 .given .1))))
 
 returns-3 : tie.Need-returns-3
 unfolding statementRow rowOf
 returns-3 c =
     let a = c .before .before .before .before .before .before .before .before .before .before .before .before .before .before .before .args in
     let s = a .listing .now in
-    let o = told-got WordRead.Got WordRead.Failed word-tells (index 2) (index-keeps 2) s (a .at) (c .before .before .before .before .before .before .before .before .before .before .before .before .read-index .ensures) (c .before .before .before .before .before .before .before .before .before .before .op .given .1) in
+    let o = told-got WordRead.Got WordRead.Failed word-tells (index 3) (index-keeps 3) s (a .at) (c .before .before .before .before .before .before .before .before .before .before .before .before .read-index .ensures) (c .before .before .before .before .before .before .before .before .before .before .op .given .1) in
     let value = c .before .before .before .before .before .before .v .given .0 .0 in
     let v = told-got SignedRead.Got SignedRead.Failed signed-tells signed signed-keeps s _ (c .before .before .before .before .before .before .before .before .read-signed .ensures) (c .before .before .before .before .before .before .v .given .1) in
-    let number = number-back locktimeNumber locktimeOps (refl, (refl, tt)) Csv _ (index-below 2 (a .at) (drop (a .at) s) o) in
-    stores-got (Line.Statement <$> both (choice locktimeOps) signed (StatementLine.LocktimeStatement (a .w))) s (a .at) (map-got Line.Statement _ s (a .at) (both-got (choice locktimeOps) signed (StatementLine.LocktimeStatement (a .w)) s (a .at) (choice-got locktimeOps s (a .at) Csv o) v)) (c .before .before .end-row .ensures _ (c .before .before .before .signed-row .ensures ∙ ap (λ k. signedRow 76 (a .w) k value) number))
+    let number = number-back locktimeNumber locktimeOps (refl, (refl, (refl, tt))) CsvTime _ (index-below 3 (a .at) (drop (a .at) s) o) in
+    stores-got (Line.Statement <$> both (choice locktimeOps) signed (StatementLine.LocktimeStatement (a .w))) s (a .at) (map-got Line.Statement _ s (a .at) (both-got (choice locktimeOps) signed (StatementLine.LocktimeStatement (a .w)) s (a .at) (choice-got locktimeOps s (a .at) CsvTime o) v)) (c .before .before .end-row .ensures _ (c .before .before .before .signed-row .ensures ∙ ap (λ k. signedRow 76 (a .w) k value) number))
 
 pub store-wait-spec : {M : Type 1} → statement M
 store-wait-spec =

@@ -1,3 +1,4 @@
+use Prim.Native.Nat.{_+_}
 use native.Mathlib.Omega.{arith}
 use mathlib.Core.Path.{ap, _∙_}
 use Rattle.listing.specs.declared.Line.{Line}
@@ -5,6 +6,7 @@ use Rattle.rows.specs.Rows.{lineIn}
 use Rattle.reader.specs.Spells.{SpellsExpression}
 use Rattle.reader.proofs.Agree.{statement-on}
 use Rattle.nodes.proofs.Laws.{below, statement-is, statement-holds}
+use Rattle.statements.specs.Steps.{waitStep}
 use Rattle.statements.proofs.Walking.{at-next, told-wait, told-verify, told-return}
 use borrow.Author.Needs.{needs}
 use Rattle.statements.proofs.analyze_statement.Statement.{statement}
@@ -47,7 +49,7 @@ returns c =
     let a = c .before .before .before .before .before .before .before .before .args in
     λ x j sp.
     let f = statement-is sp (c .before .before .before .before .before .statement-at .ensures ∙ ap Line.Statement (c .before .before .before .line .given .1)) in
-    told-wait (a .listing .now) (a .table .now) (a .d) (a .branch) x (a .i) j _ (c .before .check-wait .result) (f .0) (f .1) (c .before .check-wait .ensures) (c .wait-step .ensures .0) (c .wait-step .ensures .1)
+    told-wait (a .listing .now) (a .table .now) (a .d) (a .branch) x (a .i) j _ (f .0) (f .1) (c .wait-step .ensures ∙ ap (λ y. waitStep y (a .i + 1)) (c .before .check-wait .ensures))
 
 returns-2 : tie.Need-returns-2
 returns-2 c =

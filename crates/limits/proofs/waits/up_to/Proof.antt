@@ -1,6 +1,6 @@
 use Rattle.rules.specs.Limits.{upTo}
-use Rattle.limits.proofs.up_to.Statement.{statement}
-use Rattle.limits.proofs.up_to.Tie as tie
+use Rattle.limits.proofs.waits.up_to.Statement.{statement}
+use Rattle.limits.proofs.waits.up_to.Tie as tie
 
 pub up-to-spec : {M : Type 1} → statement M
 unfolding upTo
