@@ -3,7 +3,7 @@ ghost use mathlib.Core.Path.{_≡_};
 ghost use Prim.Native.Nat.{_+_, _<_, _^_};
 ghost use Rattle.rules.specs.Limits.{upTo, wait};
 ghost use Rattle.rows.specs.Rows.{lineIn, HasRow};
-ghost use Rattle.limits.specs.Waits.{waitOf, waitUpTo, foundIn};
+ghost use Rattle.limits.specs.Waits.{waitOf, longestOf, countedFrom, waitUpTo, foundIn};
 use ast::CompileError;
 use ast::ErrorKind;
 use ast::Location;
@@ -59,15 +59,33 @@ fn wait_up_to(loc: Location, high: u64, base: u64, v: Signed) -> Wait
     })
 }
 
+// The longest wait of an op.
+fn longest(op: LocktimeOp) -> u64
+    ensures { λ r. ⌜ r ≡ longestOf op ⌝ }
+{
+    match op {
+        LocktimeOp::Cltv => MAX_AFTER,
+        LocktimeOp::Csv => MAX_OLDER,
+        LocktimeOp::CsvTime => MAX_OLDER,
+    }
+}
+
+// What the script carries for a wait of 0.
+fn counted_from(op: LocktimeOp) -> u64
+    ensures { λ r. ⌜ r ≡ countedFrom op ⌝ }
+{
+    match op {
+        LocktimeOp::Cltv => 0,
+        LocktimeOp::Csv => 0,
+        LocktimeOp::CsvTime => TIME_UNITS,
+    }
+}
+
 // The number that the script carries for a wait within its bounds, else 21 at the wait.
 pub fn check_wait(loc: Location, op: LocktimeOp, v: Signed) -> Wait
     ensures { λ r. ⌜ r ≡ waitOf (wait loc op v) ⌝ }
 {
-    match op {
-        LocktimeOp::Cltv => wait_up_to(loc, MAX_AFTER, 0, v),
-        LocktimeOp::Csv => wait_up_to(loc, MAX_OLDER, 0, v),
-        LocktimeOp::CsvTime => wait_up_to(loc, MAX_OLDER, TIME_UNITS, v),
-    }
+    wait_up_to(loc, longest(op), counted_from(op), v)
 }
 
 // The number of the wait in row i; nothing if another line stands there, or a wait out of its bounds.

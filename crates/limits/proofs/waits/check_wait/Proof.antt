@@ -1,33 +1,18 @@
 use native.Mathlib.Omega.{arith}
-use mathlib.Core.Path.{refl, _∙_}
+use mathlib.Core.Path.{ap₂, _∙_}
 use borrow.Author.Needs.{needs}
-use Rattle.rules.specs.Limits.{inBounds, carried, wait}
-use Rattle.limits.proofs.Found.{up-to-wait}
+use Rattle.limits.specs.Waits.{waitUpTo}
+use Rattle.limits.proofs.Found.{op-wait, op-fits}
 use Rattle.limits.proofs.waits.check_wait.Statement.{statement}
 use Rattle.limits.proofs.waits.check_wait.Tie as tie
 
+wait-up-to-requires : tie.Need-wait-up-to-requires
+wait-up-to-requires c κs = omega (arith, c .before .longest .ensures, c .counted-from .ensures, op-fits (c .before .before .args .op))
+
 returns : tie.Need-returns
-unfolding inBounds carried wait
-returns c = rw (c .before .enum-told .given .1) (c .wait-up-to .ensures ∙ up-to-wait _ _ _ _ _ (omega arith))
-
-returns-2 : tie.Need-returns-2
-unfolding inBounds carried wait
-returns-2 c = rw (c .before .enum-told2 .given .1) (c .wait-up-to2 .ensures ∙ up-to-wait _ _ _ _ _ (omega arith))
-
-returns-3 : tie.Need-returns-3
-unfolding inBounds carried wait
-returns-3 c = rw (c .before .enum-told3 .given .1) (c .wait-up-to3 .ensures ∙ up-to-wait _ _ _ _ _ refl)
+returns c =
+    let a = c .before .before .before .args in
+    c .wait-up-to .ensures ∙ ap₂ (λ high base. waitUpTo (a .loc) high base (a .v)) (c .before .before .longest .ensures) (c .before .counted-from .ensures) ∙ op-wait (a .loc) (a .op) (a .v)
 
 pub check-wait-spec : {M : Type 1} → statement M
-check-wait-spec =
-    tie.close
-    (tie.spec
-    (λ c. search needs)
-    (λ c κs. search needs)
-    (λ c. search needs)
-    (λ c κs. search needs)
-    (λ c. search needs)
-    (λ c κs. search needs)
-    returns
-    returns-2
-    returns-3)
+check-wait-spec = tie.close (tie.spec (λ c κs. search needs) (λ c κs. search needs) wait-up-to-requires returns)
