@@ -1,26 +1,22 @@
 -- The wait of a row.
-use Prim.Native.Nat.{ℕ, _+_, _^_, _≤_, _<_}
+use Prim.Native.Nat.{ℕ, _≤_, _<_}
 use native.Mathlib.Omega.{arith}
-use mathlib.Core.Bool.{Bool, true, false, cond}
+use mathlib.Core.Bool.{Bool, true, false}
 use mathlib.Core.Path.{_≡_, refl, sym, ap, _∙_}
 use borrow.Author.Tests.{eqb-true, leb-true}
 use lib.Dec.{eqb, leb}
-use Rattle.ast.specs.declared.Location.{Location}
 use Rattle.ast.specs.declared.Signed.{Signed}
 use Rattle.ast.specs.declared.LocktimeOp.{LocktimeOp}
-use Rattle.ast.specs.declared.ErrorKind.the-variants.{IntegerOverflow}
-use Rattle.ast.specs.Tree.{fault}
 use Rattle.listing.specs.declared.StatementLine.{StatementLine}
 use Rattle.listing.specs.declared.Line.{Line}
 use Rattle.rows.specs.declared.Words.{Words}
 use Rattle.rows.specs.Rows.{lineOf}
 use Rattle.rows.proofs.Forms.{each-form}
-use Rattle.rules.specs.Result.{Result, ok, err, _>>_}
-use Rattle.rules.specs.Limits.{or21, upTo, inBounds, carried, wait}
+use Rattle.rules.specs.Result.{Result, ok, err}
+use Rattle.rules.specs.Limits.{upTo, inBounds, carried, wait}
 use Rattle.rules.proofs.Sound.{wait-sound, wait-can}
-use Rattle.limits.specs.declared.waits.Wait.{Wait}
 use Rattle.limits.specs.declared.waits.WaitFound.{WaitFound}
-use Rattle.limits.specs.Waits.{waitOf, longestOf, countedFrom, waitUpTo, foundOf, foundIn}
+use Rattle.limits.specs.Waits.{waitOf, foundOf, foundIn}
 
 -- a row of another letter has none
 pub found-none : (r : Words) → (r .kind ≡ 76 → ⊥) → foundIn (lineOf r) ≡ WaitFound.Nothing
@@ -35,29 +31,8 @@ up-to-most high v h = go (v .negative) refl
     go true e = let z : eqb (v .magnitude) 0 ≡ true = rw (e, upTo) at h in omega (arith, eqb-true (v .magnitude) 0 z)
     go false e = let z : leb (v .magnitude) high ≡ true = rw (e, upTo) at h in leb-true (v .magnitude) high z
 
--- the rule for a wait, from its bound and the number that the script carries
-up-to-wait : (l : Location) (high base : ℕ) (v : Signed) (n : ℕ) → base + v .magnitude ≡ n → waitUpTo l high base v ≡ waitOf (or21 l (upTo high v) >> ok n)
-unfolding or21
-up-to-wait l high base v n e = go (upTo high v)
-  where
-    go : (b : Bool) → cond b (Wait.Carries (base + v .magnitude)) (Wait.Refused (fault IntegerOverflow l)) ≡ waitOf (or21 l b >> ok n)
-    go true = ap Wait.Carries e
-    go false = refl
-
--- of each op
-pub op-wait : (l : Location) (o : LocktimeOp) (v : Signed) → waitUpTo l (longestOf o) (countedFrom o) v ≡ waitOf (wait l o v)
-unfolding inBounds carried wait
-op-wait l LocktimeOp.Cltv v = up-to-wait l 4294967295 0 v (v .magnitude) (omega arith)
-op-wait l LocktimeOp.Csv v = up-to-wait l 65535 0 v (v .magnitude) (omega arith)
-op-wait l LocktimeOp.CsvTime v = up-to-wait l 65535 4194304 v (4194304 + v .magnitude) refl
-
-pub op-fits : (o : LocktimeOp) → countedFrom o + longestOf o < 2 ^ 32
-op-fits LocktimeOp.Cltv = omega arith
-op-fits LocktimeOp.Csv = omega arith
-op-fits LocktimeOp.CsvTime = omega arith
-
 -- a number that is found fits in 32 bits
-carried-small : (o : LocktimeOp) (v : Signed) → inBounds o v ≡ true → carried o v < 4294967296
+pub carried-small : (o : LocktimeOp) (v : Signed) → inBounds o v ≡ true → carried o v < 4294967296
 unfolding inBounds carried
 carried-small LocktimeOp.Cltv v h = omega (arith, up-to-most 4294967295 v h)
 carried-small LocktimeOp.Csv v h = omega (arith, up-to-most 65535 v h)

@@ -1,15 +1,9 @@
 -- A wait as the code has it, by itself and in a row.
-use Prim.Native.Nat.{ℕ, _+_}
-use mathlib.Core.Bool.{cond}
-use Rattle.ast.specs.declared.Location.{Location}
-use Rattle.ast.specs.declared.Signed.{Signed}
-use Rattle.ast.specs.declared.LocktimeOp.{LocktimeOp}
-use Rattle.ast.specs.declared.ErrorKind.the-variants.{IntegerOverflow}
-use Rattle.ast.specs.Tree.{fault}
+use Prim.Native.Nat.{ℕ}
 use Rattle.listing.specs.declared.StatementLine.{StatementLine}
 use Rattle.listing.specs.declared.Line.{Line}
 use Rattle.rules.specs.Result.{Result, ok, err}
-use Rattle.rules.specs.Limits.{upTo, wait}
+use Rattle.rules.specs.Limits.{wait}
 use Rattle.limits.specs.declared.waits.Wait.{Wait}
 use Rattle.limits.specs.declared.waits.WaitFound.{WaitFound}
 
@@ -17,21 +11,6 @@ use Rattle.limits.specs.declared.waits.WaitFound.{WaitFound}
 abbrev pub waitOf : Result ℕ → Wait
 waitOf (ok n) = Wait.Carries n
 waitOf (err x) = Wait.Refused x
-
--- the longest wait of an op, and what the script carries for a wait of 0
-abbrev pub longestOf : LocktimeOp → ℕ
-longestOf LocktimeOp.Cltv = 4294967295
-longestOf LocktimeOp.Csv = 65535
-longestOf LocktimeOp.CsvTime = 65535
-
-abbrev pub countedFrom : LocktimeOp → ℕ
-countedFrom LocktimeOp.Cltv = 0
-countedFrom LocktimeOp.Csv = 0
-countedFrom LocktimeOp.CsvTime = 4194304
-
--- a wait from 0 to a bound, counted from `base` on in the script
-abbrev pub waitUpTo : Location → ℕ → ℕ → Signed → Wait
-waitUpTo l high base v = cond (upTo high v) (Wait.Carries (base + v .magnitude)) (Wait.Refused (fault IntegerOverflow l))
 
 -- the number alone
 abbrev pub foundOf : Wait → WaitFound

@@ -1,9 +1,9 @@
 // A wait: its bounds, else 21, and the number that the script will carry.
 ghost use mathlib.Core.Path.{_≡_};
-ghost use Prim.Native.Nat.{_+_, _<_, _^_};
-ghost use Rattle.rules.specs.Limits.{upTo, wait};
+ghost use mathlib.Core.Bool.{true};
+ghost use Rattle.rules.specs.Limits.{upTo, inBounds, carried, wait};
 ghost use Rattle.rows.specs.Rows.{lineIn, HasRow};
-ghost use Rattle.limits.specs.Waits.{waitOf, longestOf, countedFrom, waitUpTo, foundIn};
+ghost use Rattle.limits.specs.Waits.{waitOf, foundIn};
 use ast::CompileError;
 use ast::ErrorKind;
 use ast::Location;
@@ -45,39 +45,26 @@ fn up_to(high: u64, v: Signed) -> bool
     v.magnitude <= high
 }
 
-// A wait from 0 to `high`, counted from `base` on in the script; else 21 at the wait.
-fn wait_up_to(loc: Location, high: u64, base: u64, v: Signed) -> Wait
-    requires { ⌜ base + high < 2 ^ 32 ⌝ }
-    ensures { λ r. ⌜ r ≡ waitUpTo loc high base v ⌝ }
-{
-    if up_to(high, v) {
-        return Wait::Carries((base + v.magnitude) as u32);
-    }
-    Wait::Refused(CompileError {
-        loc,
-        kind: ErrorKind::IntegerOverflow,
-    })
-}
-
-// The longest wait of an op.
-fn longest(op: LocktimeOp) -> u64
-    ensures { λ r. ⌜ r ≡ longestOf op ⌝ }
+// Whether a wait is within the bounds of its op.
+fn in_bounds(op: LocktimeOp, v: Signed) -> bool
+    ensures { λ r. ⌜ r ≡ inBounds op v ⌝ }
 {
     match op {
-        LocktimeOp::Cltv => MAX_AFTER,
-        LocktimeOp::Csv => MAX_OLDER,
-        LocktimeOp::CsvTime => MAX_OLDER,
+        LocktimeOp::Cltv => up_to(MAX_AFTER, v),
+        LocktimeOp::Csv => up_to(MAX_OLDER, v),
+        LocktimeOp::CsvTime => up_to(MAX_OLDER, v),
     }
 }
 
-// What the script carries for a wait of 0.
-fn counted_from(op: LocktimeOp) -> u64
-    ensures { λ r. ⌜ r ≡ countedFrom op ⌝ }
+// The number that the script carries for a wait within its bounds.
+fn carried_number(op: LocktimeOp, v: Signed) -> u64
+    requires { ⌜ inBounds op v ≡ true ⌝ }
+    ensures { λ r. ⌜ r ≡ carried op v ⌝ }
 {
     match op {
-        LocktimeOp::Cltv => 0,
-        LocktimeOp::Csv => 0,
-        LocktimeOp::CsvTime => TIME_UNITS,
+        LocktimeOp::Cltv => v.magnitude,
+        LocktimeOp::Csv => v.magnitude,
+        LocktimeOp::CsvTime => TIME_UNITS + v.magnitude,
     }
 }
 
@@ -85,7 +72,13 @@ fn counted_from(op: LocktimeOp) -> u64
 pub fn check_wait(loc: Location, op: LocktimeOp, v: Signed) -> Wait
     ensures { λ r. ⌜ r ≡ waitOf (wait loc op v) ⌝ }
 {
-    wait_up_to(loc, longest(op), counted_from(op), v)
+    if in_bounds(op, v) {
+        return Wait::Carries(carried_number(op, v) as u32);
+    }
+    Wait::Refused(CompileError {
+        loc,
+        kind: ErrorKind::IntegerOverflow,
+    })
 }
 
 // The number of the wait in row i; nothing if another line stands there, or a wait out of its bounds.
