@@ -1,4 +1,6 @@
 // Answers in numbers, as the C functions write them.
+#![tactic(auto)]
+
 ghost use Rattle.std.specs.Prelude.{◌≡◌, List, ℕ, get_or};
 ghost use Rattle.verdicts.specs.declared.Verdict.TheVariants.{Refused};
 ghost use Rattle.turns.specs.State.{DueInside};

@@ -1,4 +1,6 @@
 // Check, Report and Name for C and Rust, and rehearsing a witness. Work memory is the function's own.
+#![tactic(auto)]
+
 ghost use Rattle.std.specs.Prelude.{◌≡◌, ◌↔◌, length, get_or, take};
 ghost use Rattle.rows.specs.Work.{work_words};
 ghost use Rattle.examiner.specs.Check.{check as check_of};

@@ -1,4 +1,6 @@
 // The blocks of a contract, walked over their rows.
+#![tactic(auto)]
+
 ghost use Rattle.std.specs.Prelude.{◌≡◌, ℕ, length};
 ghost use Rattle.ast.specs.Tree.{Statement, Block};
 ghost use Rattle.listing.specs.declared.Line.{Line};

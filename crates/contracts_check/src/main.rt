@@ -1,6 +1,8 @@
 // Runs Report and Name on each sample of contracts/ and prints the name of its file, the report, and the names of its items: the
 // lines `N,path,position,name`, from the top of each path on until Name gives none. In data/listings a record with the file's name
 // stands before each listing; tools/contracts.py writes data/listings and what is to be printed.
+#![tactic(auto)]
+
 use examiner::name::name;
 use libc::STDOUT_FILENO;
 use records::{Head, print_number, read_bytes, read_end, read_head, wide};
@@ -10,14 +12,14 @@ use verdicts::Verdict;
 const ASKED: u32 = 33;
 
 // How many listings there were, and how many were accepted.
-#[derive(Drop)]
+#[derive(Clone, Copy)]
 struct Tally {
     listings: u64,
     accepted: u64,
 }
 
 // After a name and its listing: the tally with them; or none were there.
-#[derive(Drop)]
+#[derive(Clone, Copy)]
 enum Step {
     On(Tally),
     Stop,

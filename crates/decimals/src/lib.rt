@@ -1,4 +1,6 @@
 // Fields that are signed numbers of 64 bits.
+#![tactic(auto)]
+
 ghost use Rattle.std.specs.Prelude.{◌≡◌, true, false, ◌+◌, ◌*◌, leb};
 ghost use Rattle.text.specs.declared.SignedRead.{SignedRead};
 ghost use Rattle.text.specs.Text.{read_at, digits, capped, up_to, after_minus, unsigned, sign, signed};
@@ -9,14 +11,14 @@ use ast::Signed;
 use text::{COMMA, SignedRead, Skipped, is_digit, skip, wide};
 
 // A number with one more digit, or past its limit.
-#[derive(Drop)]
+#[derive(Clone, Copy)]
 pub enum Pushed {
     Fits(u64),
     Over,
 }
 
 // What the reader of a number gives: its value and the position after it, or nothing.
-#[derive(Drop)]
+#[derive(Clone, Copy)]
 pub enum DecimalRead {
     Got(u64, usize),
     Failed,

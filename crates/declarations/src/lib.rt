@@ -1,4 +1,6 @@
 // The declarations of a contract, as its rows have them.
+#![tactic(auto)]
+
 ghost use Rattle.std.specs.Prelude.{◌≡◌, List, ℕ};
 ghost use Rattle.ast.specs.Tree.{Contract};
 ghost use Rattle.rows.specs.Rows.{line_in};
@@ -12,7 +14,7 @@ use names::{Item, item_at};
 use nodes::{FIRST_DECLARATION, contract_at, declaration_at};
 
 // The target, and for each declaration the row of its first item and the count of its items; the row of the block.
-#[derive(Drop)]
+#[derive(Clone, Copy)]
 pub struct Declared {
     pub target: Target,
     pub count: u32,
@@ -22,7 +24,7 @@ pub struct Declared {
 }
 
 // An item that is looked up.
-#[derive(Drop)]
+#[derive(Clone, Copy)]
 pub enum ItemFound {
     Item(Item),
     Nothing,

@@ -20,7 +20,7 @@ use text::Place;
 use verdicts::Verdict;
 
 // What is handed back of an item's name: Check's answer, and where the part of the listing that holds the name stands.
-#[derive(Drop)]
+#[derive(Clone, Copy)]
 pub struct Named {
     pub answer: Verdict,
     pub place: Place,

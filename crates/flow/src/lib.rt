@@ -1,4 +1,6 @@
 // The flow of statements: what may follow what, and how many paths there are.
+#![tactic(auto)]
+
 ghost use Rattle.std.specs.Prelude.{◌≡◌};
 ghost use Rattle.flow.specs.Lines.{line_goes_on, line_place};
 

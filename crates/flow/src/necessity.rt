@@ -12,7 +12,7 @@ use listing::StatementLine;
 use nodes::{block_at, skip_expression, skip_statements, statement_at};
 
 // A number of paths, and the row after what was counted.
-#[derive(Drop)]
+#[derive(Clone, Copy)]
 pub struct Counted {
     pub count: u32,
     pub next: usize,

@@ -1,5 +1,7 @@
 // The forms of a line, stored as rows: each function reads the fields that follow a letter, and byte 10, and stores the row i.
 // It answers the position after byte 10; 0, with nothing stored, where the bytes have no form.
+#![tactic(auto)]
+
 ghost use Rattle.std.specs.Prelude.{◌≡◌, ℕ, ◌+◌, ◌^◌, ◌≤◌, ◌<◌, length};
 ghost use Rattle.std.proofs.lemmas.List.Edits.{sets};
 ghost use Rattle.ast.specs.Tree.{unplaced};

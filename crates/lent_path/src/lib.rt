@@ -1,4 +1,6 @@
 // A path in the caller's memory: its items are taken and handed on there.
+#![tactic(auto)]
+
 ghost use Rattle.std.specs.Prelude.{◌≡◌, ◌≤◌, length};
 ghost use Rattle.ast.specs.Tree.{fault, unplaced};
 ghost use Rattle.reading.specs.Held.{listing_read, work_read};
@@ -19,7 +21,7 @@ use transfer::transfer_prefix_consumption;
 
 // An answer in numbers: 0 and no location, or the refusal's.
 #[repr(C)]
-#[derive(Drop)]
+#[derive(Clone, Copy)]
 pub struct Answered {
     pub number: u32,
     pub start: u32,
@@ -29,21 +31,21 @@ pub struct Answered {
 }
 
 // What is to stand in the caller's memory, and the answer.
-#[derive(Drop)]
+#[derive(Clone, Copy)]
 pub struct Left {
     pub path: Path,
     pub answered: Answered,
 }
 
 // The variable of a row, if it is a variable's.
-#[derive(Drop)]
+#[derive(Clone, Copy)]
 pub enum Variable {
     At(Location, Place),
     Missing,
 }
 
 // The location of a row's if, if it is an if's.
-#[derive(Drop)]
+#[derive(Clone, Copy)]
 pub enum Branch {
     If(Location),
     Other,

@@ -1,5 +1,7 @@
 // Drives two paths of the listing on standard input through the same takes and transfers, once lent and once by value, and
 // prints after each step the answer, what is taken by which lines, and whether both agree.
+#![tactic(auto)]
+
 ghost use Rattle.lent_path.specs.Lent.{Kept, take_at, transfer_at};
 
 use lent_path::{Answered, Left, bithoven_take, bithoven_transfer, take_at, transfer_at};
@@ -8,7 +10,7 @@ use paths::{NamePlace, Path};
 use reading::{ListingRead, read_listing};
 
 // A path that was lent at each step, and the same by value.
-#[derive(Drop)]
+#[derive(Clone, Copy)]
 struct Both {
     lent: Path,
     held: Path,

@@ -1,4 +1,6 @@
 // Bounds on numbers, literals and waits: 21.
+#![tactic(auto)]
+
 ghost use Rattle.std.specs.Prelude.{◌≡◌, ℕ};
 ghost use Rattle.ast.specs.Tree.{Expression};
 ghost use Rattle.rows.specs.Rows.{line_in};

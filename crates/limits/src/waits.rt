@@ -18,14 +18,14 @@ const MAX_AFTER: u64 = 4294967295;
 const TIME_UNITS: u64 = 4194304;
 
 // What a wait gives: the number that the script will carry, or the refusal.
-#[derive(Drop)]
+#[derive(Clone, Copy)]
 pub enum Wait {
     Carries(u32),
     Refused(CompileError),
 }
 
 // What a row has of a wait: the number of one within its bounds, or nothing.
-#[derive(Drop)]
+#[derive(Clone, Copy)]
 pub enum WaitFound {
     Number(u32),
     Nothing,

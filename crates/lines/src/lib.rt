@@ -1,4 +1,6 @@
 // A line of a listing, stored as a row: its form by its letter, and the fields of that form.
+#![tactic(auto)]
+
 ghost use Rattle.std.specs.Prelude.{◌≡◌, ◌^◌, ◌<◌, length};
 ghost use Rattle.listing.specs.Forms.{forms, fields_of, form_at, line_at};
 ghost use Rattle.rows.specs.Rows.{HasRow};

@@ -135,6 +135,7 @@ module _ (s t : List ℕ) where
 
   named-row : {n i j c : ℕ} {d : Declaration} → Spells n i d j → j ≤ c → Rows s t c → (k : ℕ) → k < n → NamedRow s t (i + k)
   unfolding part_of
+  named-row {c = c} (SpellsItems.nil {i = i}) h rows k lt = elim lt [ ]
   named-row {i = i} (SpellsItems.cons {l = l} {t = ty} {x = x} q r u) h rows zero lt =
       let e : i + 0 ≡ i = omega arith in
       rw e (record {

@@ -1,4 +1,6 @@
 // Names, and the items of a declaration as rows of a table.
+#![tactic(auto)]
+
 ghost use Rattle.std.specs.Prelude.{◌≡◌, ◌+◌};
 ghost use Rattle.ast.specs.Tree.{StackParam, Declaration, from_top, same};
 ghost use Rattle.text.specs.Text.{part};
@@ -13,7 +15,7 @@ use rows::{part_in, place_in, row_in};
 use text::Place;
 
 // An item: where it stands, its type, and where its name stands in the listing.
-#[derive(Drop)]
+#[derive(Clone, Copy)]
 pub struct Item {
     pub loc: Location,
     pub ty: Type,
@@ -21,7 +23,7 @@ pub struct Item {
 }
 
 // The position of a name, from 0 at the top.
-#[derive(Drop)]
+#[derive(Clone, Copy)]
 pub enum Found {
     At(u32),
     Missing,

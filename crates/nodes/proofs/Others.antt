@@ -44,6 +44,7 @@ Each P [] = Unit {0}
 Each P (k ∷ ks) = Made P k × Each P ks
 
 each-one : (P : Expression → Type 0) (ks : List ℕ) (n : ℕ) → OneOf ks n → Each P ks → Made P n
+each-one P [] n e _ = elim e [ ]
 each-one P (k ∷ []) n e (m, u) = subst (λ z. Made P z) (sym e) m
 each-one P (k ∷ l ∷ ks) n (inl e) (m, u) = subst (λ z. Made P z) (sym e) m
 each-one P (k ∷ l ∷ ks) n (inr r) (m, u) = each-one P (l ∷ ks) n r u

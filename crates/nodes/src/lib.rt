@@ -1,4 +1,6 @@
 // The nodes of a contract as rows of a table: what a walk over them needs.
+#![tactic(auto)]
+
 ghost use Rattle.std.specs.Prelude.{◌≡◌, List, ℕ, ◌≤◌};
 ghost use Rattle.listing.specs.declared.Line.{Line};
 ghost use Rattle.ast.specs.Tree.{Expression, Factor, Statement, Block, fault, loc};
@@ -19,14 +21,14 @@ use rows::{Words, part_in, place_in, row_in, signed_in};
 pub const FIRST_DECLARATION: u32 = 1;
 
 // What a walk over a node answers: the row after it, or the first fault.
-#[derive(Drop)]
+#[derive(Clone, Copy)]
 pub enum Answer {
     Pass(usize),
     Fault(CompileError),
 }
 
 // What the T line holds.
-#[derive(Drop)]
+#[derive(Clone, Copy)]
 pub struct Head {
     pub target: Target,
     pub declarations: u32,

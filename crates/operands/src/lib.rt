@@ -1,4 +1,6 @@
 // Names and literals as operands, and what an answer on an operand comes to.
+#![tactic(auto)]
+
 ghost use Rattle.std.specs.Prelude.{◌≡◌, ℕ};
 ghost use Rattle.ast.specs.declared.Checked.{Checked};
 ghost use Rattle.ast.specs.declared.ErrorKind.{ErrorKind};
@@ -24,7 +26,7 @@ pub mod literals; // literals.rt: what a literal's bytes are
 pub mod signatures; // signatures.rt: the signature and key rule, the multi-signature
 
 // What the rules are asked under: the target, and the path's declaration: the row of its first item, and how many there are.
-#[derive(Drop)]
+#[derive(Clone, Copy)]
 pub struct Context {
     pub target: Target,
     pub first: usize,
@@ -32,21 +34,21 @@ pub struct Context {
 }
 
 // The type of a name.
-#[derive(Drop)]
+#[derive(Clone, Copy)]
 pub enum TypeFound {
     Of(Type),
     Unknown,
 }
 
 // The test that a variable's type must pass.
-#[derive(Drop)]
+#[derive(Clone, Copy)]
 pub enum Wanted {
     Is(Type),
     NotSignature,
 }
 
 // An expression's own row: a variable's name, a literal's digits and mark, or neither of the two.
-#[derive(Drop)]
+#[derive(Clone, Copy)]
 pub enum Leaf {
     Named(Location, Place),
     Bytes(Location, Place, bool),

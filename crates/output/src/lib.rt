@@ -1,5 +1,7 @@
 // Text put into a lent output from a position on, or only measured: `writing` says whether bytes are stored.
 // Each function returns the position after its text, which is the same in both cases.
+#![tactic(auto)]
+
 ghost use Rattle.std.specs.Prelude.{true, [], ◌∷◌, ◌≡◌, ◌+◌, length};
 ghost use Rattle.output.specs.Decimal.{decimal};
 ghost use Rattle.output.specs.Put.{Room, Wrote, last_digits};

@@ -1,4 +1,6 @@
 // A path and its items: built, taken, left over.
+#![tactic(auto)]
+
 ghost use Rattle.std.specs.Prelude.{◌≡◌, ℕ, ◌+◌, ◌<◌, ◌≤◌, suc, List, false, replicate};
 ghost use Rattle.ast.specs.Tree.{fault};
 ghost use Rattle.text.specs.Text.{part};
@@ -24,7 +26,7 @@ use text::Place;
 // Where an item's name stands, as the number of its row, and the listing line that took the item (0 where none). A listing has at most 1024
 // lines; with 16 bits each the tables of all paths take 4 kB.
 #[repr(C)]
-#[derive(Drop)]
+#[derive(Clone, Copy)]
 pub struct NamePlace {
     pub row: u16,
     pub line: u16,
@@ -32,7 +34,7 @@ pub struct NamePlace {
 
 // A path's items, position 0 being the top; the taken positions are the ones of `taken`, which run from the top.
 #[repr(C)]
-#[derive(Drop)]
+#[derive(Clone, Copy)]
 pub struct Path {
     pub places: [NamePlace; 32],
     pub count: u32,
@@ -40,7 +42,7 @@ pub struct Path {
 }
 
 // What a walk that takes items answers, and the path after it.
-#[derive(Drop)]
+#[derive(Clone, Copy)]
 pub struct Used {
     pub path: Path,
     pub answer: Answer,

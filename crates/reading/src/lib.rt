@@ -1,4 +1,6 @@
 // From a listing to rows of work memory that spell a contract.
+#![tactic(auto)]
+
 ghost use Rattle.std.specs.Prelude.{◌≡◌, List, ℕ, ◌≤◌, length};
 ghost use Rattle.rows.specs.Rows.{HasRows};
 ghost use Rattle.ast.specs.Tree.{fault, unplaced};
@@ -15,7 +17,7 @@ use tree::{BLOCK, CONTRACT, Form, Left, Lines, Step, read_end, read_parts};
 mod store; // store.rt: the lines of a listing, stored as rows
 
 // What the reading of a listing gives: how many lines were stored as rows, or the refusal.
-#[derive(Drop)]
+#[derive(Clone, Copy)]
 pub enum ListingRead {
     Rows(usize),
     Refused(CompileError),

@@ -1,5 +1,7 @@
 // Reads each listing of data/listings and prints what reading it answers: its index, the number and the line of the
 // refusal, or 0 and the count of lines. tools/reading_vectors.py writes the listings and what is to be printed.
+#![tactic(auto)]
+
 use ast::CompileError;
 use reading::ListingRead;
 use records::{
@@ -8,7 +10,7 @@ use records::{
 };
 
 // The number and the line that are due, which end a record's head.
-#[derive(Drop)]
+#[derive(Clone, Copy)]
 struct Due {
     number: u64,
     line: u64,
@@ -16,7 +18,7 @@ struct Due {
 
 // What a reading gave. The number is 0 and the line the count of lines where the listing was read; the rest is start, end
 // and column together, which are 0 in every refusal of reading.
-#[derive(Drop)]
+#[derive(Clone, Copy)]
 struct Answer {
     number: u64,
     line: u64,
@@ -24,7 +26,7 @@ struct Answer {
 }
 
 // How many listings were read, how many answers differ from the record's, and how many words of work are not what is due.
-#[derive(Drop)]
+#[derive(Clone, Copy)]
 struct Tally {
     listings: u64,
     differ: u64,

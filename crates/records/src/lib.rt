@@ -1,5 +1,7 @@
 // What the programs over stored listings have in common. A record of their files is a head that begins with the count of its bytes
 // in five digits, the bytes, and byte 10.
+#![tactic(auto)]
+
 ghost use Rattle.std.specs.Prelude.{◌≡◌, ◌%◌, ◌+◌, take, drop};
 ghost use Rattle.records.specs.Wrong.{wrong_word, wrong_in};
 ghost use Rattle.io.specs.Counts.{IsPrefixLen};
@@ -10,7 +12,7 @@ use libc::STDOUT_FILENO;
 pub const FILLED: u32 = 7;
 
 // A record's head: how many bytes it has; or the end of the file; or what is no head.
-#[derive(Drop)]
+#[derive(Clone, Copy)]
 pub enum Head {
     Of(usize),
     End,

@@ -1,4 +1,6 @@
 // Rehearsing a witness: open, lay and take back.
+#![tactic(auto)]
+
 ghost use Rattle.std.specs.Prelude.{◌≡◌, List, ◌≤◌, length};
 ghost use Rattle.ast.specs.Tree.{Contract};
 ghost use Rattle.rows.specs.Rows.{line_in};

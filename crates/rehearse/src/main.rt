@@ -7,6 +7,8 @@
 // An answer is `number,start,end,line,column path,due 1,place,length,type`, the last four 0,0,0,0 for a rehearsal that has ended;
 // after a refusal it is `number,start,end,line,column - -`. A record of no form is answered by `no call`. `./examine --rehearse`
 // asks this program, and the gate runs it on stdin, which tools/rehearsal_vectors.py writes.
+#![tactic(auto)]
+
 use ast::{CompileError, Type};
 use libc::{STDIN_FILENO, STDOUT_FILENO};
 use records::{FILLED, Head, print_number, read_bytes, read_end, read_head, wide, wrong_words};
@@ -15,14 +17,14 @@ use turns::{Rehearsal, Rehearsed};
 use words::read_word;
 
 // How many calls were answered, and how many words of work are not what is due.
-#[derive(Drop)]
+#[derive(Clone, Copy)]
 struct Tally {
     calls: u64,
     wrong: u64,
 }
 
 // After a record: the next one; or a listing of this many bytes follows; or no more records.
-#[derive(Drop)]
+#[derive(Clone, Copy)]
 enum Step {
     On(Tally),
     Listing(usize, Tally),
@@ -30,7 +32,7 @@ enum Step {
 }
 
 // A rehearsal that a call hands back, and the position after it.
-#[derive(Drop)]
+#[derive(Clone, Copy)]
 enum RehearsalRead {
     Got(Rehearsal, usize),
     Failed,

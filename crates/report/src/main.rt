@@ -1,5 +1,7 @@
 // Reads a listing on standard input and prints its report. The buffer is larger than a listing may be, so that one that is too
 // long is seen to be.
+#![tactic(auto)]
+
 use libc::{STDIN_FILENO, STDOUT_FILENO};
 
 // The report of a listing.

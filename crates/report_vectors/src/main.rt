@@ -1,12 +1,14 @@
 // Runs Check and Report on each listing of standard input and prints its index with the number that Check answers, 0 for
 // acceptance, and then the report. `tools/report_vectors.py` writes the listings and what is to be printed: answers of a model that
 // is independent of the examiner.
+#![tactic(auto)]
+
 use libc::{STDIN_FILENO, STDOUT_FILENO};
 use records::{FILLED, Head, print_number, read_bytes, read_end, read_head, wide, wrong_words};
 use verdicts::Verdict;
 
 // How many listings there were, how many were accepted, and how many words of work are not what is due.
-#[derive(Drop)]
+#[derive(Clone, Copy)]
 struct Tally {
     listings: u64,
     accepted: u64,
@@ -14,7 +16,7 @@ struct Tally {
 }
 
 // After a record: the tally with it; or no record was there.
-#[derive(Drop)]
+#[derive(Clone, Copy)]
 enum Step {
     On(Tally),
     Stop,

@@ -1,5 +1,7 @@
 // The text of a report, put into a lent output or only measured: `writing` says whether bytes are stored. Each function returns
 // the position after its text.
+#![tactic(auto)]
+
 ghost use Rattle.std.specs.Prelude.{◌≡◌, ◌∷◌, ◌≤◌, ◌<◌, leb, length};
 ghost use Rattle.reader.specs.Ceilings.{max_bytes};
 ghost use Rattle.text.specs.Text.{part};

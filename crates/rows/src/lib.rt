@@ -1,4 +1,6 @@
 // Lines kept as rows of lent work memory.
+#![tactic(auto)]
+
 ghost use Rattle.std.specs.Prelude.{◌≡◌, ◌≤◌, length};
 ghost use Rattle.rows.specs.Rows.{place_in, signed_in, part_in, row_in, HasRow};
 ghost use Rattle.rows.specs.Work.{work_words, cleared};
@@ -10,7 +12,7 @@ use text::Place;
 pub const ROW_WORDS: usize = 9;
 
 // The letter of a line's form, its location, and up to four more fields.
-#[derive(Drop)]
+#[derive(Clone, Copy)]
 pub struct Words {
     pub kind: u32,
     pub start: u32,

@@ -1,11 +1,13 @@
 // Runs Check on each listing of data/listings and prints its answer: the listing's index, then the number and the place of
 // the refusal, or five zeros. `harness/run vectors` writes the listings and what is to be printed: the original's answers.
+#![tactic(auto)]
+
 use ast::CompileError;
 use records::{FILLED, Head, print_number, read_bytes, read_end, read_head, wide, wrong_words};
 use verdicts::Verdict;
 
 // What Check answered. All are 0 where it accepted.
-#[derive(Drop)]
+#[derive(Clone, Copy)]
 struct Answer {
     number: u64,
     start: u64,
@@ -15,7 +17,7 @@ struct Answer {
 }
 
 // How many listings were checked, how many accepted, and how many words of work are not what is due.
-#[derive(Drop)]
+#[derive(Clone, Copy)]
 struct Tally {
     listings: u64,
     accepted: u64,
@@ -23,7 +25,7 @@ struct Tally {
 }
 
 // After a record: the tally with it; or no record was there.
-#[derive(Drop)]
+#[derive(Clone, Copy)]
 enum Step {
     On(Tally),
     Stop,

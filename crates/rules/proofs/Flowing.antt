@@ -51,7 +51,9 @@ mutual
 pub flows-ok : {b : Block} → Flows b → flow b ≡ Ok
 unfolding flow followed goes_on
 flows-ok (returns l e) = refl
+flows-ok (waits l n o v {b = []ᵇ} f) = elim f [ ]
 flows-ok (waits l n o v {b = s ∷ᵇ b} f) = flows-ok f
+flows-ok (verifies l e {b = []ᵇ} f) = elim f [ ]
 flows-ok (verifies l e {b = s ∷ᵇ b} f) = flows-ok f
 flows-ok (splits l e f g) = rw (flows-ok f) (flows-ok g)
 

@@ -1,4 +1,6 @@
 // A statement on one path.
+#![tactic(auto)]
+
 ghost use Rattle.std.specs.Prelude.{◌≡◌, false, ℕ, suc, ◌≤◌};
 ghost use Rattle.ast.specs.Tree.{Expression, Statement};
 ghost use Rattle.rows.specs.Rows.{line_in};
@@ -23,7 +25,7 @@ use usage::has_names;
 mod examine; // examine.rt: one expression on one path
 
 // What a statement is to the walk: passed, refused, an expression to examine on the path in use, or an if.
-#[derive(Drop)]
+#[derive(Clone, Copy)]
 pub enum Step {
     Pass(u32),
     Fault(CompileError),

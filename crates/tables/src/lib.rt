@@ -1,5 +1,7 @@
 // The tables of all paths, as the walk over the statements holds them: the rows of name places, the taken sets, and beside them
 // the answer in numbers. What is asked before the statements and after them.
+#![tactic(auto)]
+
 ghost use Rattle.std.specs.Prelude.{◌≡◌, [], ◌∷◌, ◌<◌, ◌≤◌, length, get_or, replicate};
 ghost use Rattle.paths.specs.Path.{no_place};
 ghost use Rattle.tables.specs.State.{none_taken, no_rows, refusal, accepted, OnlyFault, passed, turned};

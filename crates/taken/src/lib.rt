@@ -1,4 +1,6 @@
 // A set of up to 32 positions, the taken ones of a path: the ones of a number, its lowest bit being position 0.
+#![tactic(auto)]
+
 ghost use Rattle.std.specs.Prelude.{◌≡◌, ◌<◌};
 ghost use Rattle.taken.specs.Taken.{is_taken, with_bit, first_free, is_run};
 

@@ -1,4 +1,6 @@
 // Reading a text from the left: each function reads one field from a position on.
+#![tactic(auto)]
+
 ghost use Rattle.std.specs.Prelude.{◌≡◌, true, ◌↔◌, ℕ, ◌+◌, ◌≤◌, ◌<◌, length, get_or};
 ghost use Rattle.text.specs.declared.Skipped.{Skipped};
 ghost use Rattle.text.specs.declared.PlaceRead.{PlaceRead};
@@ -7,39 +9,39 @@ ghost use Rattle.text.specs.Text.{read_at, byte, within, is_digit, is_name_byte,
 use ast::{Location, Signed};
 
 // A part of the listing: how many bytes precede it, and how many it has.
-#[derive(Drop)]
+#[derive(Clone, Copy)]
 pub struct Place {
     pub at: usize,
     pub len: usize,
 }
 
 // A byte that had to stand at a position: the position after it.
-#[derive(Drop)]
+#[derive(Clone, Copy)]
 pub enum Skipped {
     To(usize),
     Failed,
 }
 
 // What the reader of a field gives: its value and the position after it, or nothing.
-#[derive(Drop)]
+#[derive(Clone, Copy)]
 pub enum WordRead {
     Got(u32, usize),
     Failed,
 }
 
-#[derive(Drop)]
+#[derive(Clone, Copy)]
 pub enum SignedRead {
     Got(Signed, usize),
     Failed,
 }
 
-#[derive(Drop)]
+#[derive(Clone, Copy)]
 pub enum PlaceRead {
     Got(Place, usize),
     Failed,
 }
 
-#[derive(Drop)]
+#[derive(Clone, Copy)]
 pub enum LocationRead {
     Got(Location, usize),
     Failed,

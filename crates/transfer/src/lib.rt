@@ -1,4 +1,6 @@
 // What is taken on one path at an if, handed over to the next path.
+#![tactic(auto)]
+
 ghost use Rattle.std.specs.Prelude.{◌≡◌, ◌≤◌};
 ghost use Rattle.ast.specs.Tree.{same};
 ghost use Rattle.rules.specs.Transfer.{placed, transfer};

@@ -1,4 +1,6 @@
 // Which line may follow, and the ceilings: the reading of the tree over a table of rows, of which nothing is written.
+#![tactic(auto)]
+
 ghost use Rattle.std.specs.Prelude.{◌≡◌, true, false, List, ℕ, ◌<◌, leb, eqb};
 ghost use Rattle.rows.specs.Rows.{line_in, HasRow, HasRows};
 ghost use Rattle.tree.specs.Table.{asked};
@@ -9,14 +11,14 @@ use listing::letters;
 use rows::row_in;
 
 // The rows that were stored: how many, and whether the listing ends after the last of them or goes on with a line of no form.
-#[derive(Drop)]
+#[derive(Clone, Copy)]
 pub struct Lines {
     pub count: usize,
     pub ended: bool,
 }
 
 // What a reading gives: the number of the next line, from 0, or the refusal.
-#[derive(Drop)]
+#[derive(Clone, Copy)]
 pub enum Step {
     Next(usize),
     Refused(CompileError),
@@ -52,14 +54,14 @@ const MAX_DIGITS: u32 = 2400;
 const MAX_FACTORS: u32 = 64;
 
 // How many levels of blocks and of expressions are left.
-#[derive(Drop)]
+#[derive(Clone, Copy)]
 pub struct Left {
     pub blocks: u32,
     pub expressions: u32,
 }
 
 // What is asked of a line: its kind, how many parts it has, the kinds of the first and of the others, and whether it is within its own ceiling.
-#[derive(Drop)]
+#[derive(Clone, Copy)]
 pub struct Form {
     pub kind: u32,
     pub count: u32,
@@ -69,7 +71,7 @@ pub struct Form {
 }
 
 // Where a line of a kind is due: its form, or the refusal.
-#[derive(Drop)]
+#[derive(Clone, Copy)]
 pub enum Due {
     Stands(Form),
     Refused(CompileError),

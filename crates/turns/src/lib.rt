@@ -1,4 +1,6 @@
 // A turn of a rehearsal, on the items that the rows of a contract declare.
+#![tactic(auto)]
+
 ghost use Rattle.std.specs.Prelude.{◌≡◌, List, ℕ};
 ghost use Rattle.ast.specs.Tree.{same, fault, unplaced as Tree·unplaced};
 ghost use Rattle.names.specs.declared.Item.{Item as Item-as-Item};
@@ -19,7 +21,7 @@ use verdicts::Verdict;
 const BEGINNING: u32 = 0;
 
 // A rehearsal: the number of its path, and the position due, from 0 at the top.
-#[derive(Drop)]
+#[derive(Clone, Copy)]
 pub struct Rehearsal {
     pub path: u32,
     pub due: u32,
@@ -27,7 +29,7 @@ pub struct Rehearsal {
 
 // What a call answers: the item due, by where its name stands in the listing and its type, with the rehearsal to go on with; that it
 // has ended; or a refusal, after which the rehearsal handed in is still good.
-#[derive(Drop)]
+#[derive(Clone, Copy)]
 pub enum Rehearsed {
     Due(Place, Type, Rehearsal),
     Ended(Rehearsal),
@@ -35,7 +37,7 @@ pub enum Rehearsed {
 }
 
 // What is done on a rehearsal: it is opened, an item of this type is laid, or the item laid last is taken back.
-#[derive(Drop)]
+#[derive(Clone, Copy)]
 pub enum Turn {
     Open,
     Lay(u32),

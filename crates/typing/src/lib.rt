@@ -1,4 +1,6 @@
 // The types of expressions. The five type rules go over the rows of a table and answer the row after what they passed, or the first fault.
+#![tactic(auto)]
+
 ghost use Rattle.std.specs.Prelude.{◌≡◌};
 ghost use Rattle.rules.specs.Types.{string, number, truth, hashed, general};
 ghost use Rattle.operands.specs.Typed.{ExpressionUnder, TwoUnder, Checks, ChecksTwo, Answers, SpellsTwo, rule_of, compare_two};

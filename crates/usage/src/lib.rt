@@ -1,4 +1,6 @@
 // The names of expressions, taken from a path in the order in which they stand.
+#![tactic(auto)]
+
 ghost use Rattle.std.specs.Prelude.{◌≡◌, ℕ, List};
 ghost use Rattle.rules.specs.Usage.{usage, usage_inner, usage_factors};
 ghost use Rattle.rows.specs.Rows.{line_in, HasRow};
@@ -19,7 +21,7 @@ use text::Place;
 
 // What an expression's line says of the names in it: a name itself, or how many expressions, or factors of a multi-signature, stand below
 // it, and the row of the first.
-#[derive(Drop)]
+#[derive(Clone, Copy)]
 pub enum Parts {
     Named(Location, Place),
     Expressions(u32, usize),

@@ -1,4 +1,6 @@
 // The answer to what the rules found, and its text.
+#![tactic(auto)]
+
 ghost use Rattle.std.specs.Prelude.{◌≡◌, ◌≤◌, length};
 ghost use Rattle.ast.specs.Tree.{fault, unplaced};
 ghost use Rattle.rules.specs.Result.{ok, err};
@@ -18,14 +20,14 @@ use reporting::{has_room, put_acceptance, put_refusal};
 use tables::slots;
 
 // What Check answers.
-#[derive(Drop)]
+#[derive(Clone, Copy)]
 pub enum Verdict {
     Accepted,
     Refused(CompileError),
 }
 
 // What Report hands back: the answer, and the text's length.
-#[derive(Drop)]
+#[derive(Clone, Copy)]
 pub struct Reported {
     pub answer: Verdict,
     pub length: usize,

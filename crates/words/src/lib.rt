@@ -1,4 +1,6 @@
 // Fields that are numbers of 32 bits, and the location that four of them make.
+#![tactic(auto)]
+
 ghost use Rattle.std.specs.Prelude.{◌≡◌, ◌≤◌, length};
 ghost use Rattle.text.specs.declared.WordRead.{WordRead};
 ghost use Rattle.text.specs.declared.LocationRead.{LocationRead};

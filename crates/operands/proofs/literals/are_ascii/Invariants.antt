@@ -1,0 +1,15 @@
+use Prim.Native.Nat.{◌+◌, ◌≤◌}
+use native.Mathlib.Omega.{arith}
+use mathlib.Core.Path.{◌≡◌, refl, ◌∙◌}
+use borrow.Author.Rules.{rules}
+use lib.ListN.{length, take, drop}
+use Rattle.operands.proofs.Bytes.{ascii_more, ascii-none, ascii-end}
+use Rattle.text.specs.Text.{unhex}
+use Rattle.rules.specs.Keys.{is_ascii}
+use Rattle.operands.proofs.literals.are_ascii.Given as goal
+
+abbrev pub invariant-loop-left : goal.invariant-loop-left
+invariant-loop-left l = (l.i + l.left ≤ length l.listing) × (is_ascii (unhex (take l.left (drop l.i l.listing))) ≡ is_ascii (unhex (take l.len (drop l.at l.listing))))
+
+abbrev pub decreases-loop-left : goal.decreases-loop-left
+decreases-loop-left l = l.left

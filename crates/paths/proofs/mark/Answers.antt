@@ -1,0 +1,5 @@
+use borrow.Author.Rules.{rules}
+use Rattle.paths.proofs.mark.Goals as goal
+
+pub returns : goal.returns
+returns c = rw c.with_bit.ensures

@@ -1,0 +1,7 @@
+use Rattle.tables.specs.State.{accepted}
+use borrow.Author.Rules.{rules}
+use Rattle.tables.proofs.put_accepted.Goals as goal
+
+pub returns : goal.returns
+unfolding accepted
+returns c = rw c.unplaced.ensures at c.put_answer.ensures

@@ -1,0 +1,6 @@
+use Rattle.tables.proofs.State.{stored}
+use borrow.Author.Rules.{rules}
+use Rattle.tables.proofs.put_answer.Goals as goal
+
+pub returns : goal.returns
+returns c = stored c.args.out.now c.requires _ _ _ _ _ _ _

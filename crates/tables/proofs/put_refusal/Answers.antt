@@ -1,0 +1,9 @@
+use mathlib.Core.Path.{◌∙◌, ap}
+use mathlib.Core.List.{[], ◌∷◌}
+use Rattle.tables.specs.State.{refusal}
+use borrow.Author.Rules.{rules}
+use Rattle.tables.proofs.put_refusal.Goals as goal
+
+pub returns : goal.returns
+unfolding refusal
+returns c = rw (← c.error_number.ensures) c.put_answer.ensures

@@ -1,0 +1,7 @@
+use Rattle.text.specs.Text.{is_digit}
+use borrow.Author.Rules.{rules}
+use Rattle.text.proofs.is_digit.Goals as goal
+
+pub returns : goal.returns
+unfolding is_digit
+returns c = c.is_within.ensures

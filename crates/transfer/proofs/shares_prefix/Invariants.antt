@@ -1,0 +1,18 @@
+use Prim.Native.Nat.{◌-◌, ◌≤◌, ◌<◌}
+use native.Mathlib.Omega.{arith}
+use mathlib.Core.Bool.{true}
+use mathlib.Core.Path.{◌≡◌, refl, sym, ◌∙◌}
+use borrow.Author.Tests.{not-true, not-false}
+use lib.ListN.{take}
+use Rattle.rules.specs.Transfer.{placed}
+use Rattle.taken.specs.Taken.{first_free}
+use Rattle.paths.specs.Path.{table_of}
+use Rattle.paths.proofs.Tables.{row_named}
+use Rattle.transfer.proofs.Transfer.{run-below, agree_at, agree-past, agree-here, shared-not, shared-more, shared-all}
+use Rattle.transfer.proofs.shares_prefix.Given as goal
+
+abbrev pub invariant-loop-k : goal.invariant-loop-k
+invariant-loop-k l = (l.k ≤ l.run) × (l.run ≤ l.to.count) × (placed (take l.k (table_of l.listing l.table l.from)) (table_of l.listing l.table l.to) ≡ true)
+
+abbrev pub decreases-loop-k : goal.decreases-loop-k
+decreases-loop-k l = l.run - l.k

@@ -1,0 +1,46 @@
+-- The walk over the names of expressions and factors meets its contracts. The measure is the rows left; the factors of a multi-signature begin at
+-- the row of the first.
+use Prim.Native.Nat.{ℕ, suc, ◌+◌, ◌*◌, ◌-◌, ◌<◌}
+use native.Mathlib.Omega.{arith}
+use mathlib.Core.Path.{◌≡◌, subst}
+use borrow.Author.Rules.{rules}
+use lib.ListN.{length}
+use Rattle.rows.specs.Rows.{line_in}
+use Rattle.ast.specs.declared.Location.{Location}
+use Rattle.ast.specs.Tree.{Expression}
+use Rattle.text.specs.declared.Place.{Place}
+use Rattle.listing.specs.declared.ExpressionLine.{ExpressionLine}
+use Rattle.listing.specs.declared.Line.{Line}
+use Rattle.reader.specs.Spells.{SpellsExpression, SpellsFactors}
+use Rattle.reader.proofs.Agree.{expression-on}
+use Rattle.nodes.specs.Stands.{ExpressionAt}
+use Rattle.usage.specs.declared.Parts.{Parts}
+use Rattle.usage.specs.declared.Parts.TheVariants.{Named}
+use Rattle.rules.specs.Usage.{usage_factors}
+use Rattle.paths.specs.Path.{table_of}
+use Rattle.usage.specs.Walk.{SpellsExpressions, usage_all, PartsAre}
+use Rattle.nodes.proofs.Laws.{expression-holds, factor-holds, below}
+use Rattle.paths.proofs.Walks.{walk_is, walk-idle}
+use Rattle.usage.proofs.Trees.{factor-parts, factors-series, expressions-series, Rest, rest_all, rest-done, rest-first, rest-fault, rest_more, rest-on, rest-few, rest_below, named-walk, named-inside, signed-walk, signed-stands}
+use Rattle.usage.proofs.+check_factors_check_inner_check_variables.Given as goal
+
+abbrev pub decreases-check_factors : goal.decreases-check_factors
+decreases-check_factors l = suc (2 * (length l.table.now - l.i))
+
+abbrev pub decreases-check_inner : goal.decreases-check_inner
+decreases-check_inner l = 2 * (length l.table.now - l.i)
+
+abbrev pub decreases-check_variables : goal.decreases-check_variables
+decreases-check_variables l = 2 * (length l.table.now - l.i)
+
+abbrev pub invariant-check_factors-loop-left : goal.invariant-check_factors-loop-left
+invariant-check_factors-loop-left l = Rest (SpellsFactors (line_in l.table) l.listing) usage_factors l.listing l.table l.n l.i l.initial.out l.left l.next l.out
+
+abbrev pub decreases-check_factors-loop-left : goal.decreases-check_factors-loop-left
+decreases-check_factors-loop-left l = l.left
+
+abbrev pub invariant-check_variables-loop-due : goal.invariant-check_variables-loop-due
+invariant-check_variables-loop-due l = Rest (SpellsExpressions (line_in l.table) l.listing) usage_all l.listing l.table l.n l.i l.initial.out l.due l.next l.out
+
+abbrev pub decreases-check_variables-loop-due : goal.decreases-check_variables-loop-due
+decreases-check_variables-loop-due l = length l.table - l.next

@@ -1,0 +1,5 @@
+use borrow.Author.Rules.{rules}
+use Rattle.verdicts.proofs.without_text.Goals as goal
+
+pub returns : goal.returns
+returns c = cc
