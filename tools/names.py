@@ -37,19 +37,18 @@ def unfoldables(crate):
                 yield "specs.%s.%s" % (file[:-5], m.group(1))
 
 
-def opened(table, below, crates):
-    """the unfolding line of a table; a crate names its own specs in another way than those of others"""
-    names = ["Rattle·%s.proofs.Computed.computed" % c for c in below]
+def opened(below, crates):
+    """the unfolding line of a table"""
+    names = ["Rattle.%s.proofs.Computed.computed" % c for c in below]
     for crate in crates:
-        root = "Rattle·%s·specs." % crate if crate == table else "Rattle·%s." % crate
-        names += [root + n for n in unfoldables(crate)]
+        names += ["Rattle.%s." % crate + n for n in unfoldables(crate)]
     return "unfolding " + " ".join(names)
 
 
 for table, below, crates in TABLES:
     path = os.path.join(CRATES, table, "proofs", "Computed.antt")
     text = open(path, encoding="utf-8").read()
-    new, count = re.subn(r"(?m)^(unfoldable pub computed : .*\n)unfolding .*$", lambda m: m.group(1) + opened(table, below, crates), text)
+    new, count = re.subn(r"(?m)^(unfoldable pub computed : .*\n)unfolding .*$", lambda m: m.group(1) + opened(below, crates), text)
     assert count == 1, path
     if new != text:
         open(path, "w", encoding="utf-8").write(new)

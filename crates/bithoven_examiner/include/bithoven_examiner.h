@@ -1,6 +1,6 @@
 /* The Bithoven examiner: Check, Report and Name on a listing, and rehearsing a witness.
  *
- * Link with libbithoven_examiner.a (x86-64; `rt staticlib bithoven_examiner` writes it to target/staticlib/).
+ * Link with libbithoven_examiner.a (x86-64; `tools/build bithoven_examiner` writes it to target/staticlib/).
  *
  * STACK. A call takes up to 1.1 MB of stack, 64 KiB of it for work memory: make it on a thread that has 2 MB or more.
  * Nothing checks this at run time. docs/ARCHITECTURE.md says what was measured.

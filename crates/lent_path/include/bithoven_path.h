@@ -1,6 +1,6 @@
 /* A path of a listing in the caller's memory: its items are taken and handed on there.
  *
- * Link with liblent_path.a (x86-64; `rt staticlib lent_path` writes it to target/staticlib/).
+ * Link with liblent_path.a (x86-64; `tools/build lent_path` writes it to target/staticlib/).
  *
  * No function allocates, keeps state, or reads or writes anything but its arguments. No pointer may be null, not even with
  * length 0, and none may overlap another. */

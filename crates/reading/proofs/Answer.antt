@@ -1,7 +1,6 @@
 -- What reading a listing answers and leaves, from what its parts did.
-use Prim.Native.Nat.{ℕ, suc, ◌*◌, ◌≤◌, ◌<◌}
+use Prim.Native.Nat.{ℕ, ◌*◌, ◌≤◌, ◌<◌}
 use native.Mathlib.Omega.{arith}
-use mathlib.Core.Bool.{true, false}
 use mathlib.Core.List.{List}
 use mathlib.Core.Path.{◌≡◌, refl, sym, ap, ◌∙◌, subst}
 use borrow.Author.Tests.{lt-ltb, le-ltb, le-leb, lt-leb}
@@ -12,18 +11,17 @@ use Rattle.rows.specs.Rows.{line_in as row_line, with_rows, row_words, HasRows}
 use Rattle.rows.specs.Work.{work_words, cleared}
 use Rattle.rows.proofs.Laws.{clear-rows}
 use Rattle.tree.specs.declared.Lines.{Lines}
-use Rattle.tree.specs.declared.Step.{Step}
 use Rattle.tree.specs.declared.Step.TheVariants.{Next as Onward, Refused as Stopped}
 use Rattle.reading.specs.declared.ListingRead.{ListingRead}
 use Rattle.reading.specs.declared.ListingRead.TheVariants.{Rows, Refused}
 use Rattle.reader.specs.Ast.{CompileError}
-use Rattle.reader.specs.Source.{Source, source, Read, read, refused, refuse}
+use Rattle.reader.specs.Source.{Source, source, Read, read, refused}
 use Rattle.reader.specs.Ceilings.{max_bytes, within_ceilings}
 use Rattle.reader.specs.Reading.{contract, read_listing}
-use Rattle.reader.specs.Spells.{SpellsContract, lines_of}
+use Rattle.reader.specs.Spells.{lines_of}
 use Rattle.tree.specs.Table.{stepped}
 use Rattle.reading.specs.Held.{Stored, rows_of, rows_kept, rows_left, listing_read, work_read, Spelled}
-use Rattle.reader.proofs.Spelling.{Whole, lists, listing-spells, reached-few}
+use Rattle.reader.proofs.Spelling.{lists, listing-spells, reached-few}
 use Rattle.reader.proofs.Agree.{contract-agrees}
 use Rattle.reading.proofs.Stored.{reached-fits, stored-line, stored-length, stored-count}
 

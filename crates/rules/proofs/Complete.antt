@@ -1,5 +1,5 @@
 -- A walk passes where types and limits are in order and each path meets its declared names from the top.
-use Prim.Native.Nat.{◌+◌, ◌≤◌}
+use Prim.Native.Nat.{◌≤◌}
 use mathlib.Core.List.{List, [], ◌∷◌, ◌++◌, map, append_assoc}
 use mathlib.Core.Path.{◌≡◌, refl, sym, ◌∙◌, ap, ap₂, subst}
 use lib.ListN.{length, drop, length-map}

@@ -2,15 +2,15 @@
 use Prim.Native.Nat.{ℕ, zero, suc, ◌+◌, ◌*◌, ◌-◌, ◌≤◌, ◌<◌}
 use native.Mathlib.Numerals.{add-one}
 use native.Mathlib.Omega.{arith}
-use mathlib.Core.Bool.{Bool, true, false, ◌&&◌}
+use mathlib.Core.Bool.{Bool, true, false}
 use mathlib.Core.List.{List, [], ◌∷◌}
 use mathlib.Core.Option.{some, none}
 use mathlib.Core.Path.{◌≡◌, refl, sym, ap, ◌∙◌}
-use borrow.Author.Tests.{ltb-true, ltb-false, leb-true, leb-false, lt-ltb, le-ltb, lt-leb, le-leb, eq-eqb, ne_eqb}
-use lib.Dec.{leb, ltb, eqb}
+use borrow.Author.Tests.{ltb-true, ltb-false, leb-true, lt-leb, le-leb, eq-eqb, ne_eqb}
+use lib.Dec.{leb, ltb}
 use lib.ListN.{length, drop, get_or, get_elem?, drop_of_length-le}
 use lib.Seq.{drop-cons}
-use Rattle.text.specs.Text.{Got, got, failed, Reader, given, read_at, ◌>>=◌, yield, fail, guard, byte, within, is_digit, digits, decimal, capped, up_to, word, index, choice, run}
+use Rattle.text.specs.Text.{Got, got, failed, given, read_at, ◌>>=◌, yield, fail, guard, byte, within, is_digit, digits, decimal, capped, up_to, word, index, choice, run}
 use Rattle.text.proofs.Every.{Every}
 use Rattle.text.proofs.Places.{digits-grow, run-from, run_length, run-total, got-place}
 

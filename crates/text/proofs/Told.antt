@@ -4,15 +4,11 @@ use native.Mathlib.Omega.{arith}
 use mathlib.Core.List.{List}
 use mathlib.Core.Path.{◌≡◌, refl, sym, ap, ◌∙◌}
 use lib.ListN.{drop}
-use Rattle.ast.specs.declared.Location.{Location}
-use Rattle.ast.specs.declared.Signed.{Signed}
-use Rattle.text.specs.declared.Place.{Place}
 use Rattle.text.specs.declared.Skipped.{Skipped}
 use Rattle.text.specs.declared.WordRead.{WordRead}
 use Rattle.text.specs.declared.SignedRead.{SignedRead}
 use Rattle.text.specs.declared.PlaceRead.{PlaceRead}
 use Rattle.text.specs.declared.LocationRead.{LocationRead}
-use mathlib.Core.Bool.{Bool}
 use Rattle.text.specs.Text.{Got, got, failed, Reader, given, read_at, ◌>>◌, byte}
 use Rattle.text.proofs.Places.{Keeps, byte-keeps, got-place, then-got, then-failed}
 

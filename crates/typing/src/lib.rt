@@ -15,7 +15,7 @@ use operands::{
 };
 
 // String: a literal, a hash, a variable of type String.
-#[cycle(check_both_check_compare_check_operand_check_type_check_type_boolean_check_type_crypto_operand_check_type_numeric_check_type_string)]
+#[cycle(type_rules)]
 pub fn check_type_string(listing: &[u8], table: &[u32], context: Context, i: usize) -> Answer
     requires { ExpressionUnder listing.now table.now context i }
     ensures { Checks string listing.now table.now context i result }
@@ -36,7 +36,7 @@ pub fn check_type_string(listing: &[u8], table: &[u32], context: Context, i: usi
 }
 
 // Number: a number, a variable of type Number, size, arithmetic, a unary other than not.
-#[cycle(check_both_check_compare_check_operand_check_type_check_type_boolean_check_type_crypto_operand_check_type_numeric_check_type_string)]
+#[cycle(type_rules)]
 pub fn check_type_numeric(listing: &[u8], table: &[u32], context: Context, i: usize) -> Answer
     requires { ExpressionUnder listing.now table.now context i }
     ensures { Checks number listing.now table.now context i result }
@@ -64,7 +64,7 @@ pub fn check_type_numeric(listing: &[u8], table: &[u32], context: Context, i: us
 }
 
 // Truth: a boolean, a variable of type Boolean, logic, not, compare, a signature check.
-#[cycle(check_both_check_compare_check_operand_check_type_check_type_boolean_check_type_crypto_operand_check_type_numeric_check_type_string)]
+#[cycle(type_rules)]
 pub fn check_type_boolean(listing: &[u8], table: &[u32], context: Context, i: usize) -> Answer
     requires { ExpressionUnder listing.now table.now context i }
     ensures { Checks truth listing.now table.now context i result }
@@ -99,7 +99,7 @@ pub fn check_type_boolean(listing: &[u8], table: &[u32], context: Context, i: us
 }
 
 // A hash's operand: a variable not of type Signature, a hash by this rule again, others by the general rule.
-#[cycle(check_both_check_compare_check_operand_check_type_check_type_boolean_check_type_crypto_operand_check_type_numeric_check_type_string)]
+#[cycle(type_rules)]
 pub fn check_type_crypto_operand(
     listing: &[u8],
     table: &[u32],
@@ -123,7 +123,7 @@ pub fn check_type_crypto_operand(
 }
 
 // General: literals and variables pass; any other node by the rule that its operands are due.
-#[cycle(check_both_check_compare_check_operand_check_type_check_type_boolean_check_type_crypto_operand_check_type_numeric_check_type_string)]
+#[cycle(type_rules)]
 pub fn check_type(listing: &[u8], table: &[u32], context: Context, i: usize) -> Answer
     requires { ExpressionUnder listing.now table.now context i }
     ensures { Checks general listing.now table.now context i result }
@@ -162,7 +162,7 @@ pub fn check_type(listing: &[u8], table: &[u32], context: Context, i: usize) -> 
 }
 
 // An operand by the rule for a type. What is of type Signature passes none of the three.
-#[cycle(check_both_check_compare_check_operand_check_type_check_type_boolean_check_type_crypto_operand_check_type_numeric_check_type_string)]
+#[cycle(type_rules)]
 fn check_operand(listing: &[u8], table: &[u32], context: Context, i: usize, ty: Type) -> Answer
     requires { ExpressionUnder listing.now table.now context i }
     ensures { Checks (rule_of ty) listing.now table.now context i result }
@@ -176,7 +176,7 @@ fn check_operand(listing: &[u8], table: &[u32], context: Context, i: usize, ty: 
 }
 
 // Two operands in turn, both by the rule for a type.
-#[cycle(check_both_check_compare_check_operand_check_type_check_type_boolean_check_type_crypto_operand_check_type_numeric_check_type_string)]
+#[cycle(type_rules)]
 fn check_both(listing: &[u8], table: &[u32], context: Context, i: usize, ty: Type) -> Answer
     requires { TwoUnder listing.now table.now context i }
     ensures { ChecksTwo (rule_of ty) (rule_of ty) listing.now table.now context i result }
@@ -189,7 +189,7 @@ fn check_both(listing: &[u8], table: &[u32], context: Context, i: usize, ty: Typ
 }
 
 // A compare at `loc`, its operands from row i on: by the one type that the left operand can have, so that none is gone into twice.
-#[cycle(check_both_check_compare_check_operand_check_type_check_type_boolean_check_type_crypto_operand_check_type_numeric_check_type_string)]
+#[cycle(type_rules)]
 fn check_compare(
     listing: &[u8],
     table: &[u32],

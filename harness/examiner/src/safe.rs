@@ -1,5 +1,5 @@
 //! A safe wrapper around the examiner's C exports. It needs nothing but the standard library: copy this file, and link
-//! libbithoven_examiner.a (`rt staticlib bithoven_examiner` writes it). With cargo, let a build.rs print
+//! libbithoven_examiner.a (`tools/build bithoven_examiner` writes it). With cargo, let a build.rs print
 //! `cargo:rustc-link-search=native=FOLDER` and `cargo:rustc-link-lib=static=bithoven_examiner`; with rustc, pass `-L FOLDER -l
 //! static=bithoven_examiner`.
 

@@ -1,12 +1,8 @@
-use Prim.Native.Nat.{◌-◌, ◌≤◌, ◌+◌, ◌*◌}
-use native.Mathlib.Omega.{arith}
-use mathlib.Core.Path.{◌≡◌, refl, sym, ap, ◌∙◌}
-use borrow.Author.Rules.{rules}
-use borrow.Author.Tests.{not-true, not-false, leb-true, leb-false}
-use lib.ListN.{length, get_or}
+use Prim.Native.Nat.{◌-◌, ◌≤◌}
+use mathlib.Core.Path.{◌≡◌}
+use lib.ListN.{length}
 use Rattle.decimals.specs.declared.DecimalRead.{DecimalRead}
-use Rattle.text.proofs.Fields.{digit-range, digits-stop, digits-past, Digits, capped-step, capped-got, capped-over}
-use Rattle.decimals.proofs.Decimals.{push-fits, push-over}
+use Rattle.text.proofs.Fields.{Digits}
 use Rattle.decimals.proofs.more_digits.Given as goal
 
 abbrev pub invariant-loop-i : goal.invariant-loop-i

@@ -1,6 +1,5 @@
 use Prim.Native.Nat.{◌^◌}
 use mathlib.Core.Path.{refl, ◌∙◌}
-use borrow.Author.Rules.{rules}
 use borrow.Author.Tests.{lt-ltb, le-ltb}
 use Rattle.text.specs.Text.{guard, up_to, after_minus}
 use Rattle.decimals.specs.declared.DecimalRead.{DecimalRead}

@@ -1,5 +1,4 @@
 use Prim.Native.Nat.{◌+◌}
-use borrow.Author.Rules.{rules}
 use Rattle.text.specs.Text.{after_minus, unsigned, sign}
 use Rattle.text.specs.declared.SignedRead.{SignedRead}
 use Rattle.decimals.proofs.Decimals.{sign-past, sign-minus, sign-none}

@@ -1,4 +1,3 @@
-use borrow.Author.Rules.{rules}
 use Rattle.text.specs.Text.{comma, sign, signed}
 use Rattle.text.specs.declared.SignedRead.{SignedRead}
 use Rattle.text.proofs.Told.{answer-failed, answer-same, skip-to, skip-failed}

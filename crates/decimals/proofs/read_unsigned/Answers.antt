@@ -1,5 +1,4 @@
 use Prim.Native.Nat.{◌^◌, ◌-◌}
-use borrow.Author.Rules.{rules}
 use Rattle.text.specs.Text.{yield, up_to, unsigned}
 use Rattle.decimals.specs.declared.DecimalRead.{DecimalRead}
 use Rattle.text.specs.declared.SignedRead.{SignedRead}

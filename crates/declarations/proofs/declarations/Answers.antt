@@ -1,10 +1,8 @@
 -- The invariant: of the first p declarations all is noted, and the next one stands at row `at`.
-use Prim.Native.Nat.{◌-◌, ◌≤◌, ◌+◌}
+use Prim.Native.Nat.{◌+◌}
 use native.Mathlib.Omega.{arith}
-use mathlib.Core.Path.{◌≡◌, refl, sym, ap, ◌∙◌}
-use borrow.Author.Rules.{rules}
+use mathlib.Core.Path.{refl, sym, ap, ◌∙◌}
 use Rattle.rows.specs.Rows.{line_in}
-use Rattle.reader.specs.Ceilings.{max_declarations}
 use Rattle.declarations.specs.Noted.{items_said, row_past, declaration_row, noted}
 use Rattle.declarations.proofs.Standing.{said}
 use Rattle.declarations.proofs.Declaring.{noted_more, row_next, all_noted, head-holds, head_few, next_row, next-holds, next-bounds, declared-as}

@@ -1,5 +1,4 @@
 use native.Mathlib.Omega.{arith}
-use borrow.Author.Rules.{rules}
 use Rattle.declarations.proofs.Looking.{found_none, found_some, few-paths, items-bound, item-holds, past-paths, past-items, item-here}
 use Rattle.declarations.proofs.item_in.Goals as goal
 

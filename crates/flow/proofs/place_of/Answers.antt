@@ -1,4 +1,3 @@
-use borrow.Author.Rules.{rules}
 use Rattle.flow.proofs.place_of.Goals as goal
 
 pub returns-in-LocktimeStatement : goal.returns-in-LocktimeStatement

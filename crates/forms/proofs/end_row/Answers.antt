@@ -1,4 +1,3 @@
-use borrow.Author.Rules.{rules}
 use Rattle.forms.proofs.Stores.{row-unended, row-ended}
 use Rattle.forms.proofs.end_row.Goals as goal
 

@@ -1,4 +1,3 @@
-use borrow.Author.Rules.{rules}
 use Rattle.forms.proofs.signed_row.Goals as goal
 
 pub bit-requires : goal.bit-requires

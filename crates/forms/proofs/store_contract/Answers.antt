@@ -1,5 +1,4 @@
 use mathlib.Core.Path.{refl, ap, ◌∙◌}
-use borrow.Author.Rules.{rules}
 use lib.ListN.{drop}
 use Rattle.ast.specs.declared.Target.TheVariants.{Taproot}
 use Rattle.ast.specs.Numbers.{targets, target_number}

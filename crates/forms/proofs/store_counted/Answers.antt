@@ -1,5 +1,4 @@
 use mathlib.Core.Path.{◌∙◌}
-use borrow.Author.Rules.{rules}
 use Rattle.text.specs.declared.WordRead.{WordRead}
 use Rattle.text.specs.Text.{◌<$>◌, word}
 use Rattle.text.proofs.Places.{word_keeps}

@@ -1,6 +1,5 @@
 use native.Mathlib.Omega.{arith}
 use mathlib.Core.Path.{refl, ap, ◌∙◌}
-use borrow.Author.Rules.{rules}
 use lib.ListN.{drop}
 use Rattle.ast.specs.declared.Type.TheVariants.{Boolean}
 use Rattle.ast.specs.Numbers.{types, type_number}

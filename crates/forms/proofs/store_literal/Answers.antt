@@ -2,7 +2,6 @@ use native.Mathlib.Omega.{arith}
 use mathlib.Core.Bool.{true, false}
 use mathlib.Core.List.{[], ◌∷◌}
 use mathlib.Core.Path.{refl, ap, ◌∙◌}
-use borrow.Author.Rules.{rules}
 use lib.ListN.{drop}
 use Rattle.text.specs.declared.WordRead.{WordRead}
 use Rattle.text.specs.declared.PlaceRead.{PlaceRead}

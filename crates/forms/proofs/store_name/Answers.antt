@@ -1,5 +1,4 @@
 use native.Mathlib.Omega.{arith}
-use borrow.Author.Rules.{rules}
 use Rattle.text.specs.declared.PlaceRead.{PlaceRead}
 use Rattle.text.specs.Text.{◌<$>◌, name}
 use Rattle.text.proofs.Places.{name-keeps}

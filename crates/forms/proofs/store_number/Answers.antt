@@ -1,4 +1,3 @@
-use borrow.Author.Rules.{rules}
 use Rattle.text.specs.declared.SignedRead.{SignedRead}
 use Rattle.text.specs.Text.{◌<$>◌, signed}
 use Rattle.text.proofs.Places.{signed-keeps}

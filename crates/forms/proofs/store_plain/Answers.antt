@@ -1,5 +1,4 @@
 use mathlib.Core.Path.{◌∙◌}
-use borrow.Author.Rules.{rules}
 use Rattle.forms.proofs.store_plain.Goals as goal
 
 pub returns : goal.returns

@@ -1,5 +1,4 @@
 use mathlib.Core.Path.{refl, ap, ◌∙◌}
-use borrow.Author.Rules.{rules}
 use lib.ListN.{drop}
 use Rattle.ast.specs.declared.LocktimeOp.TheVariants.{CsvTime}
 use Rattle.ast.specs.Numbers.{locktime_ops, locktime_number}

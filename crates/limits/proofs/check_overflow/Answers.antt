@@ -1,5 +1,4 @@
 use mathlib.Core.Path.{ap}
-use borrow.Author.Rules.{rules}
 use Rattle.listing.specs.declared.Line.{Line}
 use Rattle.listing.specs.Kinds.{part_of}
 use Rattle.rules.specs.Limits.{four_bytes, element}

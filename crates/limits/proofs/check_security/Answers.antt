@@ -1,17 +1,14 @@
 -- check_security meets its contract. The measure is the rows left.
-use Prim.Native.Nat.{ℕ, ◌+◌, ◌-◌}
+use Prim.Native.Nat.{◌+◌, ◌-◌}
 use native.Mathlib.Omega.{arith}
 use mathlib.Core.Path.{◌≡◌, sym, ap, ◌∙◌}
-use lib.ListN.{length}
-use borrow.Author.Rules.{rules}
 use borrow.Enum.Refused.{opened}
 use Rattle.listing.specs.declared.ExpressionLine.{ExpressionLine}
 use Rattle.listing.specs.declared.Line.{Line}
 use Rattle.rows.specs.Rows.{line_in, HasRow}
 use Rattle.reader.proofs.Agree.{expression-on, factor-on}
-use Rattle.nodes.specs.Stands.{FactorAt}
 use Rattle.nodes.proofs.Laws.{expression-holds, row-part}
-use Rattle.limits.proofs.Security.{Rest, entered, rest_all, rest-done, rest-few, rest-first, rest-fault, rest_more, rest-factor, rest-signed}
+use Rattle.limits.proofs.Security.{entered, rest_all, rest-done, rest-few, rest-first, rest-fault, rest_more, rest-factor, rest-signed}
 use Rattle.limits.proofs.check_security.Goals.{In-CheckSigExpression, In_default}
 use Rattle.limits.proofs.check_security.Goals as goal
 

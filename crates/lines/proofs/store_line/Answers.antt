@@ -1,5 +1,4 @@
 use mathlib.Core.Path.{refl}
-use borrow.Author.Rules.{rules}
 use Rattle.listing.specs.declared.Line.{Line}
 use Rattle.listing.specs.Forms.{fields_of}
 use Rattle.rows.specs.Rows.{row_of}

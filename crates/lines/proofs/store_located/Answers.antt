@@ -1,7 +1,6 @@
 use mathlib.Core.Bool.{true, false}
 use mathlib.Core.List.{[], ◌∷◌}
 use mathlib.Core.Path.{refl}
-use borrow.Author.Rules.{rules}
 use Rattle.ast.specs.declared.BinaryLogicalOp.TheVariants.{BoolAnd}
 use Rattle.ast.specs.declared.BinaryCompareOp.TheVariants.{NumNotEqual}
 use Rattle.ast.specs.declared.BinaryMathOp.TheVariants.{Min}

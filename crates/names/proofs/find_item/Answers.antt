@@ -1,7 +1,7 @@
-use Prim.Native.Nat.{◌-◌, ◌≤◌}
+use Prim.Native.Nat.{◌-◌}
 use native.Mathlib.Omega.{arith}
 use mathlib.Core.Path.{◌≡◌, sym, ◌∙◌}
-use Rattle.names.proofs.Laws.{items-named, name-inside, Left, find-done, find-missing, find-here, find-next}
+use Rattle.names.proofs.Laws.{items-named, name-inside, find-done, find-missing, find-here, find-next}
 use Rattle.names.proofs.find_item.Goals as goal
 
 pub loop-k-init : goal.loop-k-init

@@ -1,7 +1,5 @@
 use Prim.Native.Nat.{◌-◌, ◌≤◌}
-use native.Mathlib.Omega.{arith}
-use mathlib.Core.Path.{◌≡◌, sym, ◌∙◌}
-use Rattle.names.proofs.Laws.{items-named, name-inside, Left, find-done, find-missing, find-here, find-next}
+use Rattle.names.proofs.Laws.{Left}
 use Rattle.names.proofs.find_item.Given as goal
 
 abbrev pub invariant-loop-k : goal.invariant-loop-k

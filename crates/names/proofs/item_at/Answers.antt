@@ -1,5 +1,4 @@
 use mathlib.Core.Path.{refl}
-use borrow.Author.Rules.{rules}
 use Rattle.listing.specs.Kinds.{item_line}
 use Rattle.rows.proofs.Forms.{item-row}
 use Rattle.nodes.proofs.Laws.{line-of}

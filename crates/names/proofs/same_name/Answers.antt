@@ -1,8 +1,6 @@
-use Prim.Native.Nat.{◌+◌, ◌-◌, ◌≤◌}
 use native.Mathlib.Omega.{arith}
-use mathlib.Core.Path.{◌≡◌, refl, sym, ◌∙◌}
-use lib.ListN.{length}
-use Rattle.names.proofs.Laws.{same_from, same-done, same_more, same-less, parts-differ, parts_from}
+use mathlib.Core.Path.{refl, sym, ◌∙◌}
+use Rattle.names.proofs.Laws.{same-done, same_more, same-less, parts-differ, parts_from}
 use Rattle.names.proofs.same_name.Goals as goal
 
 pub returns-then-n-b : goal.returns-then-n-b

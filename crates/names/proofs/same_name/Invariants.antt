@@ -1,8 +1,7 @@
-use Prim.Native.Nat.{◌+◌, ◌-◌, ◌≤◌}
-use native.Mathlib.Omega.{arith}
-use mathlib.Core.Path.{◌≡◌, refl, sym, ◌∙◌}
+use Prim.Native.Nat.{◌+◌, ◌≤◌}
+use mathlib.Core.Path.{◌≡◌}
 use lib.ListN.{length}
-use Rattle.names.proofs.Laws.{same_from, same-done, same_more, same-less, parts-differ, parts_from}
+use Rattle.names.proofs.Laws.{same_from}
 use Rattle.names.proofs.same_name.Given as goal
 
 abbrev pub invariant-loop-k : goal.invariant-loop-k

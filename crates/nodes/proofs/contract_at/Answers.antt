@@ -1,5 +1,4 @@
 use mathlib.Core.Path.{refl}
-use borrow.Author.Rules.{rules}
 use Rattle.listing.specs.Kinds.{contract_line}
 use Rattle.nodes.proofs.Laws.{line-of}
 use Rattle.rows.proofs.Forms.{contract-row}

@@ -1,5 +1,4 @@
 use mathlib.Core.Path.{ap, ◌∙◌}
-use borrow.Author.Rules.{rules}
 use Rattle.rows.specs.Rows.{place_in, row_in, line_in}
 use Rattle.reader.proofs.Inversion.{expression-from}
 use Rattle.nodes.proofs.Others.{loc-row}

@@ -1,10 +1,7 @@
 -- The row after n nodes meets its contract. The measure is the rows left.
-use Prim.Native.Nat.{ℕ, ◌+◌, ◌-◌}
+use Prim.Native.Nat.{◌+◌, ◌-◌}
 use native.Mathlib.Omega.{arith}
 use mathlib.Core.Path.{ap}
-use lib.ListN.{length}
-use Rattle.rows.specs.Rows.{line_in}
-use Rattle.nodes.specs.Nodes.{Spans, Spanned}
 use Rattle.nodes.proofs.Spans.{spans-more, spans-none, spanned-room, spanned-on, spanned-few}
 use Rattle.nodes.proofs.skip_nodes.Goals as goal
 

@@ -1,4 +1,3 @@
-use borrow.Author.Rules.{rules}
 use mathlib.Core.Path.{sym, ◌∙◌}
 use Rattle.nodes.specs.Stands.{walked}
 use Rattle.rules.specs.Types.{or17, of_type, variable}

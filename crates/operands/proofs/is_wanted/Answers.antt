@@ -1,4 +1,3 @@
-use borrow.Author.Rules.{rules}
 use Rattle.operands.proofs.Leaves.{is-type, not-signature}
 use Rattle.operands.proofs.is_wanted.Goals as goal
 

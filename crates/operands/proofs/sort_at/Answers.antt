@@ -1,4 +1,3 @@
-use borrow.Author.Rules.{rules}
 use mathlib.Core.Path.{refl, sym, ap, ◌∙◌}
 use Rattle.operands.proofs.Leaves.{sort-not, sort-unary}
 use Rattle.listing.specs.declared.Line.{Line}

@@ -1,4 +1,3 @@
-use borrow.Author.Rules.{rules}
 use mathlib.Core.Path.{◌≡◌, sym, ◌∙◌}
 use Rattle.ast.specs.declared.Checked.TheVariants.{Ok, Err}
 use Rattle.nodes.specs.Stands.{walked}

@@ -1,7 +1,7 @@
 use mathlib.Core.Path.{sym}
 use native.Mathlib.Omega.{arith}
 use Rattle.output.proofs.Laws.{decimal-length, decimal-short, length-first, length-all}
-use Prim.Native.Nat.{ℕ, ◌/◌, ◌<◌}
+use Prim.Native.Nat.{◌/◌}
 use Rattle.output.proofs.+decimal_length.Goals as goal
 
 pub returns-then-x-lt10 : goal.returns-then-x-lt10

@@ -1,7 +1,6 @@
 use mathlib.Core.Path.{refl, sym, ◌∙◌}
 use native.Mathlib.Omega.{arith}
 use Rattle.output.proofs.Laws.{decimal-first, decimal-all, decimal-before, decimal-length, decimal-short, room_as, room_next, wrote_as, wrote-next, wrote-length}
-use Prim.Native.Nat.{ℕ, ◌<◌}
 use Rattle.output.proofs.+write_decimal.Goals as goal
 
 pub write_digit-requires : goal.write_digit-requires

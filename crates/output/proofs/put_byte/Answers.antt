@@ -1,6 +1,5 @@
 use mathlib.Core.Path.{refl, ◌∙◌}
 use native.Mathlib.Omega.{arith}
-use borrow.Author.Rules.{rules}
 use Rattle.output.specs.Put.{puts}
 use Rattle.output.proofs.Laws.{wrote-length}
 use Rattle.output.proofs.put_byte.Goals as goal

@@ -1,7 +1,6 @@
 use mathlib.Core.Bool.{true}
 use mathlib.Core.Path.{◌≡◌}
 use native.Mathlib.Omega.{arith}
-use borrow.Author.Rules.{rules}
 use Rattle.output.proofs.Laws.{decimal-short, wrote-off}
 use Rattle.output.proofs.put_decimal.Goals as goal
 

@@ -1,4 +1,3 @@
-use borrow.Author.Rules.{rules}
 use Rattle.output.specs.Decimal.{decimal}
 use Rattle.output.proofs.Laws.{room-first, room_next, wrote-next}
 use Rattle.output.proofs.put_field.Goals as goal

@@ -1,4 +1,3 @@
-use borrow.Author.Rules.{rules}
 use lib.ListN.{length}
 use Rattle.output.proofs.Laws.{room-first, room_next, wrote-next}
 use Rattle.output.proofs.put_part.Goals as goal

@@ -1,6 +1,5 @@
 use mathlib.Core.Path.{sym}
 use native.Mathlib.Omega.{arith}
-use borrow.Author.Rules.{rules}
 use Rattle.output.proofs.Laws.{one-digit, last-length, room_as, wrote_as}
 use Rattle.output.proofs.write_digit.Goals as goal
 

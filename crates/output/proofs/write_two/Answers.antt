@@ -1,5 +1,4 @@
 use Rattle.output.proofs.Laws.{room-first, room_next, wrote-next}
-use borrow.Author.Rules.{rules}
 use Rattle.output.specs.Put.{last_digits}
 use Rattle.output.proofs.write_two.Goals as goal
 

@@ -5,7 +5,6 @@ use mathlib.Core.Path.{◌∙◌}
 use Rattle.tree.specs.Walk.{form_part, depth_of}
 use Rattle.tree.proofs.Walk.{all_levels, whole, contract-refused, contract-end}
 use Rattle.reading.proofs.Table.{contract-walk}
-use borrow.Author.Rules.{rules}
 use Rattle.reading.proofs.read_contract.Goals as goal
 
 deep : (m : ℕ) → depth_of (form_part whole m) all_levels < 600

@@ -4,7 +4,6 @@ use lib.ListN.{length}
 use Rattle.rows.specs.Work.{work_words}
 use Rattle.reading.proofs.Stored.{stored-holds}
 use Rattle.reading.proofs.Answer.{read_short, read-long, read-within}
-use borrow.Author.Rules.{rules}
 use Rattle.rows.specs.Rows.{row_words}
 use Rattle.reading.proofs.read_listing.Goals as goal
 

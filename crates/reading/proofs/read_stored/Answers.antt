@@ -2,7 +2,6 @@ use mathlib.Core.Path.{sym, ◌∙◌}
 use Rattle.reader.specs.Source.{source}
 use Rattle.reader.specs.Reading.{contract}
 use Rattle.reading.proofs.Answer.{kept_read, kept-refused}
-use borrow.Author.Rules.{rules}
 use Rattle.reading.proofs.read_stored.Goals as goal
 
 pub returns-in-Next : goal.returns-in-Next

@@ -1,12 +1,9 @@
 -- The invariant: the words passed are zero, the rest is as it was.
-use mathlib.Core.Path.{◌≡◌, refl, ap, ◌∙◌}
-use mathlib.Core.List.{List, ◌++◌}
-use Prim.Native.Nat.{ℕ, ◌≤◌, ◌-◌}
-use native.Mathlib.Omega.{arith}
-use borrow.Author.Rules.{rules}
-use borrow.Author.Fill.{fill_more}
-use lib.ListN.{length, drop, set, replicate, length-set}
-use Rattle.rows.specs.Work.{work_words, cleared}
+use mathlib.Core.Path.{◌≡◌}
+use mathlib.Core.List.{◌++◌}
+use Prim.Native.Nat.{◌≤◌, ◌-◌}
+use lib.ListN.{length, drop, replicate}
+use Rattle.rows.specs.Work.{work_words}
 use Rattle.rows.proofs.clear.Given as goal
 
 abbrev pub invariant-loop-i : goal.invariant-loop-i

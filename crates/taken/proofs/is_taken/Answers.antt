@@ -1,6 +1,5 @@
 use Rattle.taken.specs.Taken.{is_taken}
 use Rattle.taken.proofs.Bits.{shifted}
-use borrow.Author.Rules.{rules}
 use Rattle.taken.proofs.is_taken.Goals as goal
 
 pub returns : goal.returns

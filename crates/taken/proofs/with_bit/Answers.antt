@@ -1,5 +1,4 @@
 use Rattle.taken.proofs.Bits.{bit-set}
-use borrow.Author.Rules.{rules}
 use Rattle.taken.proofs.with_bit.Goals as goal
 
 pub returns : goal.returns

@@ -1,11 +1,10 @@
-use Prim.Native.Nat.{◌+◌, ◌-◌, ◌≤◌}
+use Prim.Native.Nat.{◌+◌, ◌≤◌}
 use native.Mathlib.Omega.{arith}
-use mathlib.Core.Path.{◌≡◌, refl, ◌∙◌}
-use borrow.Author.Rules.{rules}
+use mathlib.Core.Path.{refl, ◌∙◌}
 use borrow.Author.Tests.{not-false}
 use lib.ListN.{length}
 use Rattle.text.specs.Text.{is_hex_digit}
-use Rattle.text.proofs.Fields.{End, end-past, end-steps}
+use Rattle.text.proofs.Fields.{end-past, end-steps}
 use Rattle.text.proofs.hex_end.Goals as goal
 
 pub returns-then-listing-at : goal.returns-then-listing-at

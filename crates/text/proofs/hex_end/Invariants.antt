@@ -1,11 +1,8 @@
-use Prim.Native.Nat.{◌+◌, ◌-◌, ◌≤◌}
-use native.Mathlib.Omega.{arith}
-use mathlib.Core.Path.{◌≡◌, refl, ◌∙◌}
-use borrow.Author.Rules.{rules}
-use borrow.Author.Tests.{not-false}
+use Prim.Native.Nat.{◌-◌, ◌≤◌}
+use mathlib.Core.Path.{◌≡◌}
 use lib.ListN.{length}
 use Rattle.text.specs.Text.{is_hex_digit}
-use Rattle.text.proofs.Fields.{End, end-past, end-steps}
+use Rattle.text.proofs.Fields.{End}
 use Rattle.text.proofs.hex_end.Given as goal
 
 abbrev pub invariant-loop-i : goal.invariant-loop-i

@@ -1,11 +1,8 @@
 use Prim.Native.Nat.{◌-◌}
-use native.Mathlib.Omega.{arith}
-use mathlib.Core.Path.{◌≡◌, refl, sym, ◌∙◌}
-use borrow.Author.Rules.{rules}
-use borrow.Author.Tests.{not-true, not-false}
+use mathlib.Core.Path.{◌≡◌}
 use lib.ListN.{length}
 use Rattle.text.specs.Text.{is_hex_digit}
-use Rattle.text.proofs.Fields.{End, end_step, end-stop, end-past}
+use Rattle.text.proofs.Fields.{End}
 use Rattle.text.proofs.hex_rest.Given as goal
 
 abbrev pub invariant-loop-i : goal.invariant-loop-i

@@ -1,5 +1,4 @@
 use Rattle.text.specs.Text.{is_digit}
-use borrow.Author.Rules.{rules}
 use Rattle.text.proofs.is_digit.Goals as goal
 
 pub returns : goal.returns

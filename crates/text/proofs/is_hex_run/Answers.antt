@@ -1,12 +1,9 @@
-use Prim.Native.Nat.{◌+◌, ◌-◌, ◌≤◌}
+use Prim.Native.Nat.{◌+◌}
 use native.Mathlib.Omega.{arith}
-use mathlib.Core.Bool.{true}
-use mathlib.Core.Logic.{◌↔◌}
 use mathlib.Core.Path.{◌≡◌}
-use borrow.Author.Rules.{rules}
 use lib.ListN.{get_or}
 use Rattle.text.specs.Text.{is_hex_digit}
-use Rattle.text.proofs.Every.{Every, every-none, every_more}
+use Rattle.text.proofs.Every.{every-none, every_more}
 use Rattle.text.proofs.is_hex_run.Goals as goal
 
 pub loop-k-init : goal.loop-k-init

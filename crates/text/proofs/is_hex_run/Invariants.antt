@@ -1,12 +1,10 @@
 use Prim.Native.Nat.{◌+◌, ◌-◌, ◌≤◌}
-use native.Mathlib.Omega.{arith}
 use mathlib.Core.Bool.{true}
 use mathlib.Core.Logic.{◌↔◌}
 use mathlib.Core.Path.{◌≡◌}
-use borrow.Author.Rules.{rules}
 use lib.ListN.{get_or}
 use Rattle.text.specs.Text.{is_hex_digit}
-use Rattle.text.proofs.Every.{Every, every-none, every_more}
+use Rattle.text.proofs.Every.{Every}
 use Rattle.text.proofs.is_hex_run.Given as goal
 
 abbrev pub invariant-loop-k : goal.invariant-loop-k

@@ -1,11 +1,7 @@
-use Prim.Native.Nat.{◌-◌}
-use native.Mathlib.Omega.{arith}
-use mathlib.Core.Path.{◌≡◌, refl, sym, ◌∙◌}
-use borrow.Author.Rules.{rules}
+use mathlib.Core.Path.{refl, sym, ◌∙◌}
 use borrow.Author.Tests.{not-true, not-false}
-use lib.ListN.{length}
 use Rattle.text.specs.Text.{is_name_byte}
-use Rattle.text.proofs.Fields.{End, end_step, end-stop, end-past}
+use Rattle.text.proofs.Fields.{end_step, end-stop, end-past}
 use Rattle.text.proofs.name_end.Goals as goal
 
 pub loop-i-init : goal.loop-i-init

@@ -1,9 +1,8 @@
 use Prim.Native.Nat.{◌%◌}
 use native.Mathlib.Omega.{arith}
 use mathlib.Core.Path.{refl, ◌∙◌}
-use borrow.Author.Rules.{rules}
 use borrow.Author.Tests.{eq-eqb, ne_eqb}
-use lib.Dec.{ltb, eqb}
+use lib.Dec.{eqb}
 use Rattle.text.specs.Text.{◌>>=◌, yield, guard, comma, is_hex_digit, span, literal}
 use Rattle.text.specs.declared.PlaceRead.{PlaceRead}
 use Rattle.text.proofs.Fields.{end-run}

@@ -1,9 +1,7 @@
-use Prim.Native.Nat.{◌%◌}
 use native.Mathlib.Omega.{arith}
 use mathlib.Core.Path.{refl, ◌∙◌}
-use borrow.Author.Rules.{rules}
 use borrow.Author.Tests.{lt-ltb, le-ltb}
-use lib.Dec.{ltb, eqb}
+use lib.Dec.{ltb}
 use Rattle.text.specs.Text.{◌>>=◌, yield, guard, comma, is_name_byte, span, name}
 use Rattle.text.specs.declared.PlaceRead.{PlaceRead}
 use Rattle.text.proofs.Fields.{end-run}

@@ -2,7 +2,6 @@ use mathlib.Core.Path.{sym, ap}
 use Rattle.text.specs.declared.Skipped.{Skipped}
 use Rattle.text.specs.Text.{read_at, given}
 use Rattle.text.proofs.Fields.{byte-same, byte-other, byte_past}
-use borrow.Author.Rules.{rules}
 use Rattle.text.proofs.skip.Goals as goal
 
 pub returns-then-listing-at : goal.returns-then-listing-at

@@ -1,12 +1,11 @@
 -- A node and the parts of a line meet their contracts. The measures: how deep the node goes, and the deepest of the parts.
-use Prim.Native.Nat.{ℕ, suc, ◌*◌, ◌-◌, ◌≤◌, ◌<◌}
+use Prim.Native.Nat.{ℕ}
 use native.Mathlib.Omega.{arith}
 use mathlib.Core.Path.{◌≡◌, sym, ap, ◌∙◌}
-use borrow.Author.Rules.{rules}
 use Rattle.tree.specs.declared.Due.{Due}
 use Rattle.tree.specs.Table.{asked}
-use Rattle.tree.specs.Walk.{form_part, due, parts_of, node, depth_of}
-use Rattle.tree.proofs.Walk.{Standing, stands, highest, part-highest, part_falls, node-refused, node-stands, parts_from, parts_all, parts_none, parts-end, parts-refused, parts_next}
+use Rattle.tree.specs.Walk.{due}
+use Rattle.tree.proofs.Walk.{Standing, stands, part-highest, part_falls, node-refused, node-stands, parts_all, parts_none, parts-end, parts-refused, parts_next}
 use Rattle.tree.proofs.+read_node_read_parts.Goals as goal
 use Rattle.tree.proofs.+read_node_read_parts.Goals.{read_node-In-Stands}
 

@@ -1,12 +1,8 @@
 -- A node and the parts of a line meet their contracts. The measures: how deep the node goes, and the deepest of the parts.
 use Prim.Native.Nat.{ℕ, suc, ◌*◌, ◌-◌, ◌≤◌, ◌<◌}
-use native.Mathlib.Omega.{arith}
-use mathlib.Core.Path.{◌≡◌, sym, ap, ◌∙◌}
-use borrow.Author.Rules.{rules}
-use Rattle.tree.specs.declared.Due.{Due}
-use Rattle.tree.specs.Table.{asked}
-use Rattle.tree.specs.Walk.{form_part, due, parts_of, node, depth_of}
-use Rattle.tree.proofs.Walk.{Standing, stands, highest, part-highest, part_falls, node-refused, node-stands, parts_from, parts_all, parts_none, parts-end, parts-refused, parts_next}
+use mathlib.Core.Path.{◌≡◌}
+use Rattle.tree.specs.Walk.{form_part, parts_of, node, depth_of}
+use Rattle.tree.proofs.Walk.{highest, parts_from}
 use Rattle.tree.proofs.+read_node_read_parts.Given as goal
 
 abbrev pub decreases-read_node : goal.decreases-read_node

@@ -1,6 +1,5 @@
 use mathlib.Core.Path.{sym, ◌∙◌}
 use Rattle.tree.proofs.Walk.{due-other, due-stands, due-past}
-use borrow.Author.Rules.{rules}
 use Rattle.tree.proofs.due_line.Goals as goal
 
 pub returns-then-form-kind : goal.returns-then-form-kind

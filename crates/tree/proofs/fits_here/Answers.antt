@@ -1,7 +1,6 @@
 use mathlib.Core.Path.{sym, ◌∙◌}
 use borrow.Author.Tests.{lt-ltb, le-ltb, not-true, not-false}
 use Rattle.tree.specs.Walk.{fits_here}
-use borrow.Author.Rules.{rules}
 use Rattle.tree.proofs.fits_here.Goals as goal
 
 pub returns-then-not-has_room : goal.returns-then-not-has_room

@@ -1,6 +1,5 @@
 use borrow.Author.Tests.{lt-ltb, le-ltb}
 use Rattle.tree.specs.Walk.{line_number}
-use borrow.Author.Rules.{rules}
 use Rattle.tree.proofs.line_number.Goals as goal
 
 pub returns-then-i-lt-MAX_LINES : goal.returns-then-i-lt-MAX_LINES

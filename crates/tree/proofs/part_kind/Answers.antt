@@ -2,7 +2,6 @@ use mathlib.Core.Path.{◌≡◌, refl}
 use Prim.Native.Nat.{ℕ, zero, suc}
 use Rattle.tree.specs.declared.Form.{Form}
 use Rattle.tree.specs.Walk.{form_part}
-use borrow.Author.Rules.{rules}
 use Rattle.tree.proofs.part_kind.Goals as goal
 
 later : (f : Form) (k : ℕ) → (k ≡ 0 → ⊥) → f.rest ≡ form_part f k

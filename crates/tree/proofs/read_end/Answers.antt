@@ -1,4 +1,3 @@
-use borrow.Author.Rules.{rules}
 use borrow.Author.Tests.{lt-ltb, le-ltb}
 use Rattle.tree.specs.Table.{asked}
 use Rattle.tree.specs.Walk.{finished}

@@ -1,4 +1,3 @@
-use borrow.Author.Rules.{rules}
 use Rattle.tree.proofs.refuse.Goals as goal
 
 pub returns : goal.returns

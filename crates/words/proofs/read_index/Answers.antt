@@ -1,4 +1,3 @@
-use borrow.Author.Rules.{rules}
 use Rattle.text.specs.Text.{word, index}
 use Rattle.text.specs.declared.WordRead.{WordRead}
 use Rattle.text.proofs.Places.{word_keeps}

@@ -1,14 +1,9 @@
 use Prim.Native.Nat.{◌-◌, ◌≤◌}
-use native.Mathlib.Omega.{arith}
-use mathlib.Core.Path.{◌≡◌, refl, ◌∙◌}
-use borrow.Author.Rules.{rules}
+use mathlib.Core.Path.{◌≡◌}
 use lib.ListN.{length}
-use Rattle.text.specs.Text.{read_at, word, location}
+use Rattle.text.specs.Text.{read_at, location}
 use Rattle.text.specs.declared.LocationRead.{LocationRead}
-use Rattle.text.specs.declared.WordRead.{WordRead}
-use Rattle.text.proofs.Places.{word_keeps, bind-failed}
-use Rattle.text.proofs.Told.{answer-failed, told-got, told-failed, word-tells}
-use Rattle.words.proofs.Words.{word-past, From, from-none, from-got, from-failed, from_all}
+use Rattle.words.proofs.Words.{From}
 use Rattle.words.proofs.read_location.Given as goal
 
 abbrev pub invariant-loop-k : goal.invariant-loop-k

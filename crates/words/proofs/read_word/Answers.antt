@@ -1,7 +1,6 @@
 use Prim.Native.Nat.{◌+◌, ◌-◌}
 use native.Mathlib.Omega.{arith}
 use mathlib.Core.Path.{◌≡◌, sym, ap, ◌∙◌}
-use borrow.Author.Rules.{rules}
 use lib.ListN.{drop}
 use Rattle.text.specs.Text.{comma, digits, capped, up_to, word}
 use Rattle.text.specs.declared.WordRead.{WordRead}

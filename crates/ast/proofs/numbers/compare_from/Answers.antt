@@ -1,5 +1,4 @@
 use mathlib.Core.Path.{refl}
-use borrow.Author.Rules.{rules}
 use Rattle.ast.specs.Numbers.{compare_ops}
 use Rattle.ast.specs.declared.BinaryCompareOp.TheVariants.{NumNotEqual}
 use Rattle.ast.proofs.Laws.{past-last}

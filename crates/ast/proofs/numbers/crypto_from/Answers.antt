@@ -1,5 +1,4 @@
 use mathlib.Core.Path.{refl}
-use borrow.Author.Rules.{rules}
 use Rattle.ast.specs.Numbers.{crypto_ops}
 use Rattle.ast.specs.declared.UnaryCryptoOp.TheVariants.{Ripemd160}
 use Rattle.ast.proofs.Laws.{past-last}

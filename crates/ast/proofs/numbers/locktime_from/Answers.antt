@@ -1,5 +1,4 @@
 use mathlib.Core.Path.{refl}
-use borrow.Author.Rules.{rules}
 use Rattle.ast.specs.Numbers.{locktime_ops}
 use Rattle.ast.specs.declared.LocktimeOp.TheVariants.{CsvTime}
 use Rattle.ast.proofs.Laws.{past-last}

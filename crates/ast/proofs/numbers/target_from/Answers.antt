@@ -1,5 +1,4 @@
 use mathlib.Core.Path.{refl}
-use borrow.Author.Rules.{rules}
 use Rattle.ast.specs.Numbers.{targets}
 use Rattle.ast.specs.declared.Target.TheVariants.{Taproot}
 use Rattle.ast.proofs.Laws.{past-last}

@@ -1,5 +1,4 @@
 use mathlib.Core.Path.{refl}
-use borrow.Author.Rules.{rules}
 use Rattle.ast.specs.Numbers.{types}
 use Rattle.ast.specs.declared.Type.TheVariants.{Boolean}
 use Rattle.ast.proofs.Laws.{past-last}

@@ -1,11 +1,8 @@
 use Prim.Native.Nat.{◌+◌, ◌≤◌}
-use native.Mathlib.Omega.{arith}
-use mathlib.Core.Path.{◌≡◌, refl, ◌∙◌}
-use borrow.Author.Tests.{not-false}
+use mathlib.Core.Path.{◌≡◌}
 use lib.ListN.{length, take, drop}
 use Rattle.text.specs.Text.{unhex}
 use Rattle.rules.specs.Keys.{all_digits}
-use Rattle.limits.proofs.Digits.{digits-many, digit_at}
 use Rattle.limits.proofs.literals.are_digits.Given as goal
 
 abbrev pub invariant-loop-left : goal.invariant-loop-left

@@ -1,12 +1,8 @@
-use Prim.Native.Nat.{◌+◌, ◌-◌, ◌≤◌}
-use native.Mathlib.Omega.{arith}
-use mathlib.Core.Path.{◌≡◌, refl, ◌∙◌}
-use borrow.Author.Rules.{rules}
-use borrow.Author.Tests.{not-true, not-false}
+use Prim.Native.Nat.{◌+◌, ◌≤◌}
+use mathlib.Core.Path.{◌≡◌}
 use lib.ListN.{length, take, drop}
 use Rattle.text.specs.Text.{unhex}
 use Rattle.rules.specs.Keys.{all_digits}
-use Rattle.limits.proofs.Digits.{digits_more, digits-none, digits-end}
 use Rattle.limits.proofs.literals.digits_rest.Given as goal
 
 abbrev pub invariant-loop-left : goal.invariant-loop-left

@@ -1,5 +1,4 @@
 use native.Mathlib.Omega.{arith}
-use borrow.Author.Rules.{rules}
 use Rattle.limits.proofs.Digits.{low_digit, high_digit}
 use Rattle.limits.proofs.literals.hex_value.Goals as goal
 

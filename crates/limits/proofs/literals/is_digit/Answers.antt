@@ -1,5 +1,4 @@
 use mathlib.Core.Path.{sym, ◌∙◌}
-use borrow.Author.Rules.{rules}
 use Rattle.rules.specs.Keys.{is_digit}
 use Rattle.limits.proofs.literals.is_digit.Goals as goal
 

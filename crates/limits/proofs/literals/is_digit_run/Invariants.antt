@@ -1,11 +1,8 @@
 use Prim.Native.Nat.{◌-◌, ◌≤◌}
-use native.Mathlib.Omega.{arith}
 use mathlib.Core.Bool.{true}
 use mathlib.Core.Logic.{◌↔◌}
 use mathlib.Core.Path.{◌≡◌}
-use borrow.Author.Rules.{rules}
-use Rattle.text.proofs.Every.{every-none, every_more}
-use Rattle.limits.proofs.Digits.{Pair, Pairs, pairs-spelled}
+use Rattle.limits.proofs.Digits.{Pairs}
 use Rattle.limits.proofs.literals.is_digit_run.Given as goal
 
 abbrev pub invariant-loop-k : goal.invariant-loop-k

@@ -1,7 +1,6 @@
 use Prim.Native.Nat.{◌+◌, ◌*◌}
 use mathlib.Core.Bool.{◌&&◌}
 use mathlib.Core.Path.{sym, ap, ◌∙◌}
-use borrow.Author.Rules.{rules}
 use Rattle.text.specs.Text.{is_hex_digit, hex_value}
 use Rattle.rules.specs.Keys.{is_digit}
 use Rattle.rules.proofs.Basics.{and-true}

@@ -1,4 +1,3 @@
-use borrow.Author.Rules.{rules}
 use Rattle.limits.proofs.Digits.{odd-length, hex-length, other_length}
 use Rattle.limits.proofs.literals.literal_length.Goals as goal
 

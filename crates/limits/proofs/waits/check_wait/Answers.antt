@@ -1,7 +1,6 @@
 use native.Mathlib.Omega.{arith}
 use mathlib.Core.Bool.{true}
 use mathlib.Core.Path.{◌≡◌, refl, sym, ap, ◌∙◌}
-use borrow.Author.Rules.{rules}
 use Rattle.rules.specs.Limits.{or21, in_bounds, wait}
 use Rattle.rules.proofs.Sound.{wait-can}
 use Rattle.limits.specs.declared.waits.Wait.{Wait}

@@ -1,11 +1,6 @@
-use Prim.Native.Nat.{◌+◌, ◌≤◌}
 use native.Mathlib.Omega.{arith}
-use mathlib.Core.Path.{◌≡◌, refl, ◌∙◌}
-use borrow.Author.Rules.{rules}
-use lib.ListN.{length, take, drop}
+use mathlib.Core.Path.{refl, ◌∙◌}
 use Rattle.operands.proofs.Bytes.{ascii_more, ascii-none, ascii-end}
-use Rattle.text.specs.Text.{unhex}
-use Rattle.rules.specs.Keys.{is_ascii}
 use Rattle.operands.proofs.literals.are_ascii.Goals as goal
 
 pub loop-left-init : goal.loop-left-init

@@ -1,9 +1,6 @@
 use Prim.Native.Nat.{◌+◌, ◌≤◌}
-use native.Mathlib.Omega.{arith}
-use mathlib.Core.Path.{◌≡◌, refl, ◌∙◌}
-use borrow.Author.Rules.{rules}
+use mathlib.Core.Path.{◌≡◌}
 use lib.ListN.{length, take, drop}
-use Rattle.operands.proofs.Bytes.{ascii_more, ascii-none, ascii-end}
 use Rattle.text.specs.Text.{unhex}
 use Rattle.rules.specs.Keys.{is_ascii}
 use Rattle.operands.proofs.literals.are_ascii.Given as goal

@@ -1,4 +1,3 @@
-use borrow.Author.Rules.{rules}
 use Rattle.text.specs.Text.{part, bytes_of}
 use Rattle.operands.proofs.literals.is_ascii_literal.Goals as goal
 

@@ -1,4 +1,3 @@
-use borrow.Author.Rules.{rules}
 use mathlib.Core.Path.{◌∙◌}
 use Rattle.text.specs.Text.{part, bytes_of}
 use Rattle.operands.proofs.Bytes.{odd-no-hex, even-hex}

@@ -1,4 +1,3 @@
-use borrow.Author.Rules.{rules}
 use Rattle.rules.specs.Keys.{shaped}
 use Rattle.operands.proofs.Bytes.{is-x-only}
 use Rattle.operands.proofs.literals.is_shaped.Goals as goal

@@ -1,10 +1,6 @@
 use Prim.Native.Nat.{suc, ◌-◌}
 use native.Mathlib.Omega.{arith}
 use mathlib.Core.Path.{◌≡◌}
-use borrow.Author.Rules.{rules}
-use Rattle.nodes.specs.declared.Answer.{Answer}
-use Rattle.rules.specs.Types.{inners}
-use Rattle.operands.specs.Typed.{FactorsUnder, ChecksFactors}
 use Rattle.operands.proofs.Laws.{first_under, rest_under, inners-end, inners-fault, inners-pass}
 use Rattle.operands.proofs.signatures.check_inners.Goals as goal
 

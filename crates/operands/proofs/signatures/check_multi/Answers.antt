@@ -1,4 +1,3 @@
-use borrow.Author.Rules.{rules}
 use borrow.Author.Tests.{eq-eqb, ne_eqb, lt-ltb, le-ltb}
 use Rattle.nodes.specs.Stands.{walked}
 use Rattle.rules.specs.Types.{threshold}

@@ -1,4 +1,3 @@
-use borrow.Author.Rules.{rules}
 use native.Mathlib.Omega.{arith}
 use Rattle.ast.specs.Tree.{from_top, loc}
 use Rattle.nodes.specs.Stands.{walked}

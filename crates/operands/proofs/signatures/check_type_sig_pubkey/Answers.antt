@@ -1,4 +1,3 @@
-use borrow.Author.Rules.{rules}
 use Rattle.rules.specs.Types.{signature, key, sig_key}
 use Rattle.operands.proofs.Laws.{left-under, right-under, two-pass, two-fault}
 use Rattle.operands.proofs.signatures.check_type_sig_pubkey.Goals as goal

@@ -1,9 +1,6 @@
-use Prim.Native.Nat.{◌-◌, ◌≤◌}
 use native.Mathlib.Omega.{arith}
-use mathlib.Core.Path.{◌≡◌, refl, ◌∙◌}
-use borrow.Author.Rules.{rules}
-use lib.ListN.{length}
-use Rattle.reading.proofs.Stored.{Storing, storing-none, storing-more, stored-malformed, stored-end, stored-full}
+use mathlib.Core.Path.{refl, ◌∙◌}
+use Rattle.reading.proofs.Stored.{storing-none, storing-more, stored-malformed, stored-end, stored-full}
 use Rattle.reading.proofs.store.store_lines.Goals as goal
 
 pub loop-count-init : goal.loop-count-init

@@ -1,9 +1,7 @@
 use Prim.Native.Nat.{◌-◌, ◌≤◌}
-use native.Mathlib.Omega.{arith}
-use mathlib.Core.Path.{◌≡◌, refl, ◌∙◌}
-use borrow.Author.Rules.{rules}
+use mathlib.Core.Path.{◌≡◌}
 use lib.ListN.{length}
-use Rattle.reading.proofs.Stored.{Storing, storing-none, storing-more, stored-malformed, stored-end, stored-full}
+use Rattle.reading.proofs.Stored.{Storing}
 use Rattle.reading.proofs.store.store_lines.Given as goal
 
 abbrev pub invariant-loop-count : goal.invariant-loop-count

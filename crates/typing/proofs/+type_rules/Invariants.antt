@@ -21,7 +21,7 @@ use Rattle.operands.proofs.Laws.{row_low, operand, operands, left-under, right-u
 use Rattle.nodes.proofs.Others.{others}
 use Rattle.typing.proofs.Compare.{compare-unknown, compare-sorted}
 use Rattle.typing.proofs.Others.{Refuses, ByGeneral, refused-here, not-strings, string-refuses, not-numbers, number-refuses, not-truths, truth-refuses, no-hashes, hashed-general}
-use Rattle.typing.proofs.+check_both_check_compare_check_operand_check_type_check_type_boolean_check_type_crypto_operand_check_type_numeric_check_type_string.Given as goal
+use Rattle.typing.proofs.+type_rules.Given as goal
 
 abbrev measure : List ℕ → ℕ → ℕ → ℕ
 measure t i rank = 8 * (length t - i) + rank

@@ -23,7 +23,7 @@ use Rattle.operands.proofs.Laws.{row_low, operand, operands, left-under, right-u
 use Rattle.nodes.proofs.Others.{others}
 use Rattle.typing.proofs.Compare.{compare-unknown, compare-sorted}
 use Rattle.typing.proofs.Others.{Refuses, ByGeneral, refused-here, not-strings, string-refuses, not-numbers, number-refuses, not-truths, truth-refuses, no-hashes, hashed-general}
-use Rattle.typing.proofs.+check_both_check_compare_check_operand_check_type_check_type_boolean_check_type_crypto_operand_check_type_numeric_check_type_string.Goals as goal
+use Rattle.typing.proofs.+type_rules.Goals as goal
 
 pub check_both-check_operand-left-requires : goal.check_both-check_operand-left-requires
 check_both-check_operand-left-requires t c = let a = c.requires in (omega (arith), left-under a)
