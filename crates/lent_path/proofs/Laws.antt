@@ -274,7 +274,7 @@ variable-sound s t i w x h =
 
 -- a path by value has 32 places
 pub path-full : (p : Path) (vs : List Val) → Is PathT.the_row p vs → length p.places ≡ 32
-path-full p vs is = sym (length-map p.places _) ∙ (LL.owed PathT.the_type PathL.the_laws p vs is).0.1.0.1
+path-full p vs is = (LL.owed PathT.the_type PathL.the_laws p vs is).0.1.0.1
 
 -- ---- what is asked, by the tests
 module _ (s t : List ℕ) (i : ℕ) (p : Path) where

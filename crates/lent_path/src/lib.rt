@@ -252,8 +252,7 @@ pub fn transfer_at(listing: &[u8], table: &[u32], i: usize, from: Path, to: Path
 }
 
 // The rows of a listing, which the two functions below take as their table: 1 to 5 with no row left, as Check has them.
-#[unsafe(no_mangle)]
-pub extern "C" fn bithoven_rows(listing: &[u8], work: &mut [u32]) -> Answered
+pub fn bithoven_rows(listing: &[u8], work: &mut [u32]) -> Answered
     ensures value { result ≡ answered_read (listing_read listing.now (length work.old)) }
     ensures work_after { work.new ≡ work_read listing.now work.old }
 {
@@ -265,13 +264,7 @@ pub extern "C" fn bithoven_rows(listing: &[u8], work: &mut [u32]) -> Answered
 }
 
 // The variable of row i is taken from a lent path: 12, 13, 15, or 3 where there is no such path or row. A refusal leaves the path as it was.
-#[unsafe(no_mangle)]
-pub extern "C" fn bithoven_take(
-    path: &mut Path,
-    listing: &[u8],
-    table: &[u32],
-    i: usize,
-) -> Answered
+pub fn bithoven_take(path: &mut Path, listing: &[u8], table: &[u32], i: usize) -> Answered
     ensures { Kept listing.now table.now path.old (take_at listing.now table.now i path.old) result path.new }
 {
     let after = take_at(listing, table, i, *path);
@@ -280,8 +273,7 @@ pub extern "C" fn bithoven_take(
 }
 
 // What is taken in `from` at row i's if is taken in a lent path: 20, or 3 where there is no such path or row. A refusal leaves the path as it was.
-#[unsafe(no_mangle)]
-pub extern "C" fn bithoven_transfer(
+pub fn bithoven_transfer(
     to: &mut Path,
     listing: &[u8],
     table: &[u32],

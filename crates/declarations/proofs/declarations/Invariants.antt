@@ -11,7 +11,7 @@ use Rattle.declarations.proofs.Declaring.{noted_more, row_next, all_noted, head-
 use Rattle.declarations.proofs.declarations.Given as goal
 
 abbrev pub invariant-loop-p : goal.invariant-loop-p
-invariant-loop-p l =    (l.p ≤ l.count) × (l.count ≤ max_declarations) × (l.firsts ≡ noted (λ p. declaration_row (line_in l.table) p + 1) l.p) × (l.counts ≡ noted (λ p. items_said (line_in l.table (declaration_row (line_in l.table) p))) l.p) × (l.at ≡ declaration_row (line_in l.table) l.p)
+invariant-loop-p l = (l.p ≤ l.count) × (l.count ≤ max_declarations) × (l.firsts ≡ noted (λ p. declaration_row (line_in l.table) p + 1) l.p) × (l.counts ≡ noted (λ p. items_said (line_in l.table (declaration_row (line_in l.table) p))) l.p) × (l.at ≡ declaration_row (line_in l.table) l.p)
 
 abbrev pub decreases-loop-p : goal.decreases-loop-p
 decreases-loop-p l = l.count - l.p

@@ -23,7 +23,6 @@ room c = (expression-holds (rest-first c.loop-due.invariant c.loop-due-test.true
 line-is : (c : In-CheckSigExpression) → line_in c.args.table.now c.loop-due.next ≡ Line.Expression (ExpressionLine.CheckSigExpression c.in-CheckSigExpression.field-0)
 line-is c = c.expression_at-line.ensures ∙ ap Line.Expression c.in-CheckSigExpression.is
 
-
 pub loop-due-init : goal.loop-due-init
 loop-due-init c = rest_all c.requires
 

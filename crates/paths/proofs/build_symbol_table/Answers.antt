@@ -12,7 +12,6 @@ use Rattle.paths.proofs.build_symbol_table.Goals as goal
 below : (c : In-Missing) → c.loop-k.k < 32
 below c = omega (arith, c.loop-k-test.true, c.requires.1)
 
-
 pub loop-k-init : goal.loop-k-init
 loop-k-init c = (omega arith, build-start c.args.listing.now c.args.table.now c.args.first c.args.count c.no_items-path.ensures)
 

@@ -23,7 +23,6 @@ place : (c : In-At) → c.in-At.k < 32
 place c =
     omega (arith, found_below c.args.listing.now c.args.table.now c.args.path _ (found c), c.requires.1.few)
 
-
 pub returns-in_default : goal.returns-in_default
 returns-in_default c = walk-fault c.refuse.ensures (take-unknown c.requires.1 _ _ _ (sym c.find_place.ensures ∙ c.in_default.is))
 

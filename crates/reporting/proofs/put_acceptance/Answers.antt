@@ -19,7 +19,6 @@ head-room c = let a = c.args in room_as (sym (acceptance-run a.d.count (analysis
 paths-room : (c : After-put_paths-arg-1) → let a = c.args in Room a.writing c.put_head-head.new.output c.put_head-head.result (paths_and_waits (analysis_in a.listing.now a.table.now a.n a.d a.rows a.taken.now)) 33627904
 paths-room c = room_next ((let a = c.args in room_as (sym (acceptance-run a.d.count (analysis_in a.listing.now a.table.now a.n a.d a.rows a.taken.now) (tables-length a.listing.now a.table.now a.d a.rows a.taken.now))) (omega arith) c.requires.3)) c.put_head-head.ensures
 
-
 pub put_head-head-requires : goal.put_head-head-requires
 put_head-head-requires c = let a = c.args in room-first (paths_and_waits (analysis_in a.listing.now a.table.now a.n a.d a.rows a.taken.now)) 33627904 (head-room c)
 

@@ -15,7 +15,6 @@ bytes-room c = head-room c.args.count c.requires
 decimal-room : (c : After-put_decimal-arg-1) → let a = c.args in Room a.writing c.put_bytes-head.new.output c.put_bytes-head.result (decimal a.count ++ (10 ∷ [])) 11
 decimal-room c = room_next ((head-room c.args.count c.requires)) c.put_bytes-head.ensures
 
-
 pub put_bytes-head-requires : goal.put_bytes-head-requires
 put_bytes-head-requires c = let a = c.args in room-first (decimal a.count ++ (10 ∷ [])) 11 (bytes-room (goal.at.put_bytes-head-requires c).After-put_bytes-arg-2-1)
 

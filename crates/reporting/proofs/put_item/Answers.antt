@@ -24,7 +24,6 @@ pair-room-2 c = room_next ((room_next ((let a = c.args in item_room c.requires.0
 name-room : (c : After-put_name-arg-1) → let a = c.args in Room a.writing c.put_pair-taker.new.output c.put_pair-taker.result ((44 ∷ part a.listing.now c.item_at-it.result.name) ++ (10 ∷ [])) 32770
 name-room c = room_next ((room_next ((room_next ((let a = c.args in item_room c.requires.0 c.item_at-it.ensures a.k a.bit a.place.line _ _ _ c.type_number-sort.ensures c.took-is.ensures c.line_if-line.ensures c.requires.2)) c.put_byte-letter.ensures)) c.put_pair-typed.ensures)) c.put_pair-taker.ensures
 
-
 pub item_at-it-requires : goal.item_at-it-requires
 item_at-it-requires c = c.requires.0.holds
 

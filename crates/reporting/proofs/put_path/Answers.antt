@@ -20,7 +20,6 @@ pair-room c = room_next ((path_room c.args.p c.args.path.count _ (table-length c
 byte-room-2 : (c : After-put_byte-arg-2-1) → let a = c.args in Room a.writing c.put_pair-count.new.output c.put_pair-count.result ((10 ∷ []) ++ item_lines 0 (table_of a.listing.now a.table.now a.path)) 1050081
 byte-room-2 c = room_next ((room_next ((path_room c.args.p c.args.path.count _ (table-length c.requires.0) c.requires.2)) c.put_byte-letter.ensures)) c.put_pair-count.ensures
 
-
 pub put_byte-letter-requires : goal.put_byte-letter-requires
 put_byte-letter-requires c = let a = c.args in room-first (pair a.p a.path.count ++ ((10 ∷ []) ++ item_lines 0 (table_of a.listing.now a.table.now a.path))) 1050103 (byte-room c)
 

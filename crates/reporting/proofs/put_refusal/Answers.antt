@@ -22,7 +22,6 @@ pair-room c = room_next ((room_next ((refusal-room c.args.x c.error_number-numbe
 pair-room-2 : (c : After-put_pair-arg-2-1) → let l = c.args.x.loc in Room c.args.writing c.put_pair-end.new.output c.put_pair-end.result (pair l.line l.column ++ (10 ∷ [])) 23
 pair-room-2 c = room_next ((room_next ((room_next ((refusal-room c.args.x c.error_number-number.ensures c.requires)) c.put_bytes-head.ensures)) c.put_decimal-numbered.ensures)) c.put_pair-end.ensures
 
-
 pub put_bytes-head-requires : goal.put_bytes-head-requires
 put_bytes-head-requires c = room-first (decimal c.error_number-number.result ++ located c.args.x) 55 (bytes-room (goal.at.put_bytes-head-requires c).After-put_bytes-arg-2-1)
 

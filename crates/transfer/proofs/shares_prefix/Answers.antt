@@ -21,7 +21,6 @@ agrees : (c : After-same_item) → let a = c.args in c.same_item.result ≡ agre
 agrees c =
     c.same_item.ensures ∙ agree-here c.requires.1 c.requires.2 (run-below c.requires.1 ((omega arith))) (omega arith)
 
-
 pub returns-then-to-run : goal.returns-then-to-run
 returns-then-to-run c =
     let h : c.args.to.count < first_free c.args.from.taken = omega arith in

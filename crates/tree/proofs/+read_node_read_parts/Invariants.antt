@@ -16,7 +16,7 @@ abbrev pub decreases-read_parts : goal.decreases-read_parts
 decreases-read_parts l = suc (2 * depth_of (highest l.form) l.left)
 
 abbrev pub invariant-read_parts-loop-k : goal.invariant-read_parts-loop-k
-invariant-read_parts-loop-k l =    (l.k ≤ l.count) × ((f : ℕ) → ((m : ℕ) → depth_of (form_part l.form m) l.left < f) → parts_from (node f l.table l.lines l.left) l.form l.k l.next ≡ parts_of (node f l.table l.lines l.left) l.form l.i)
+invariant-read_parts-loop-k l = (l.k ≤ l.count) × ((f : ℕ) → ((m : ℕ) → depth_of (form_part l.form m) l.left < f) → parts_from (node f l.table l.lines l.left) l.form l.k l.next ≡ parts_of (node f l.table l.lines l.left) l.form l.i)
 
 abbrev pub decreases-read_parts-loop-k : goal.decreases-read_parts-loop-k
 decreases-read_parts-loop-k l = l.count - l.k

@@ -15,7 +15,6 @@ start : (c : In-To) → let a = c.args in let n = c.in-To.n in word a.at (drop a
 unfolding word
 start c = let a = c.args in skip-to comma (up_to 4294967295) a.listing.now a.at c.skip.ensures c.in-To.is
 
-
 pub returns-in_default : goal.returns-in_default
 unfolding word
 returns-in_default c =

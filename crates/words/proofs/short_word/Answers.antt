@@ -53,7 +53,6 @@ three c = word_more ((word_more ((word_first ((record { inside = omega arith; fi
 four : (c : Else-not-is_wide_digit-4) → let a = c.args in Begun a.listing.now a.at (thousands c) (a.at + 5) 9999
 four c = word_more ((word_more ((word_more ((word_first ((record { inside = omega arith; first = c.if-listing-at-ne-COMMA.false; second = c.wide-a.ensures })) c.if-a-eq48.false ((sym c.is_wide_digit.ensures ∙ not-false _ c.if-not-is_wide_digit.false-raw)))) (omega arith) c.wide-b.ensures (omega arith) ((sym c.is_wide_digit-2.ensures ∙ not-false _ c.if-not-is_wide_digit-2.false-raw)))) (omega arith) c.wide-c.ensures (omega arith) ((sym c.is_wide_digit-3.ensures ∙ not-false _ c.if-not-is_wide_digit-3.false-raw)))) (omega arith) c.wide-d.ensures (omega arith) (digit-4 c)
 
-
 pub returns-then-listing-at-ne-COMMA : goal.returns-then-listing-at-ne-COMMA
 returns-then-listing-at-ne-COMMA c = let a = c.args in word-bare a.listing.now a.at (omega arith) c.if-listing-at-ne-COMMA.true
 

@@ -26,7 +26,7 @@ abbrev pub decreases-check_last : goal.decreases-check_last
 decreases-check_last l = length l.table.now - l.i
 
 abbrev pub invariant-check_flow-loop-left : goal.invariant-check_flow-loop-left
-invariant-check_flow-loop-left l =    (l.i < l.at) × (0 < l.left) × Somewhere (λ s. StatementsAt s l.table l.left l.at) × ((s : List ℕ) (b : Block) (j : ℕ) → SpellsBlock (line_in l.table) s l.i b j → (d : Block) × SpellsStatements (line_in l.table) s l.left l.at d j × (flow b ≡ flow d))
+invariant-check_flow-loop-left l = (l.i < l.at) × (0 < l.left) × Somewhere (λ s. StatementsAt s l.table l.left l.at) × ((s : List ℕ) (b : Block) (j : ℕ) → SpellsBlock (line_in l.table) s l.i b j → (d : Block) × SpellsStatements (line_in l.table) s l.left l.at d j × (flow b ≡ flow d))
 
 abbrev pub decreases-check_flow-loop-left : goal.decreases-check_flow-loop-left
 decreases-check_flow-loop-left l = l.left

@@ -14,7 +14,6 @@ use Rattle.limits.proofs.waits.check_wait.Goals as goal
 within : (c : After-carried_number) → in_bounds c.args.op c.args.v ≡ true
 within c = sym c.in_bounds.ensures ∙ c.if-in_bounds.true
 
-
 pub carried_number-requires : goal.carried_number-requires
 carried_number-requires c = sym c.in_bounds.ensures ∙ c.if-in_bounds.true
 

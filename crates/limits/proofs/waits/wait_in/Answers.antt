@@ -14,7 +14,6 @@ line-is : (c : After-check_wait-wait) → line_in c.args.table.now c.args.i ≡ 
 unfolding kept_as
 line-is c = line-by _ _ 76 c.row_in-r.ensures c.if-r-ne-WAIT.false (rw (c.place_in.ensures, c.locktime_from-op.ensures, c.signed_in.ensures))
 
-
 pub returns-then-r-ne-WAIT : goal.returns-then-r-ne-WAIT
 unfolding line_in
 returns-then-r-ne-WAIT c = sym (ap (λ r. found_in (line_of r)) (sym c.row_in-r.ensures) ∙ found_none _ c.if-r-ne-WAIT.true)

@@ -15,7 +15,6 @@ byte-room c = wait-room c.args.line c.args.number c.requires
 pair-room : (c : After-put_pair-arg-1) → let a = c.args in Room a.writing c.put_byte-letter.new.output c.put_byte-letter.result (pair a.line a.number ++ (10 ∷ [])) 23
 pair-room c = room_next ((wait-room c.args.line c.args.number c.requires)) c.put_byte-letter.ensures
 
-
 pub put_byte-letter-requires : goal.put_byte-letter-requires
 put_byte-letter-requires c = let a = c.args in room-first (pair a.line a.number ++ (10 ∷ [])) 23 (byte-room c)
 

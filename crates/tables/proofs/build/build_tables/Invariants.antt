@@ -12,7 +12,7 @@ use Rattle.tables.proofs.Building.{Building, building-none, building-err, buildi
 use Rattle.tables.proofs.build.build_tables.Given as goal
 
 abbrev pub invariant-loop-p : goal.invariant-loop-p
-invariant-loop-p l =    (l.p ≤ l.d.count) × (length l.rows ≡ 32) × (length l.taken ≡ 32) × (l.out ≡ l.initial.out) × Usable l.listing l.table l.d l.rows l.taken l.p × Empty l.rows l.taken l.p × ((c : Contract) (n : ℕ) → DeclaredAs l.listing l.table l.d c n → Building l.listing l.table l.d c l.rows l.taken l.p)
+invariant-loop-p l = (l.p ≤ l.d.count) × (length l.rows ≡ 32) × (length l.taken ≡ 32) × (l.out ≡ l.initial.out) × Usable l.listing l.table l.d l.rows l.taken l.p × Empty l.rows l.taken l.p × ((c : Contract) (n : ℕ) → DeclaredAs l.listing l.table l.d c n → Building l.listing l.table l.d c l.rows l.taken l.p)
 
 abbrev pub decreases-loop-p : goal.decreases-loop-p
 decreases-loop-p l = l.d.count - l.p
