@@ -3,9 +3,12 @@
 // stands before each listing; tools/contracts.py writes data/listings and what is to be printed.
 #![tactic(auto)]
 
+use anyhow::{Context, Result};
 use examiner::name::name;
-use libc::STDOUT_FILENO;
 use records::{Head, print_number, read_bytes, read_end, read_head, wide};
+use std::fs::File;
+use std::io;
+use std::io::Read;
 use verdicts::Verdict;
 
 // A listing has at most 32 paths, and a path 32 items; one more of each is asked for.
@@ -25,9 +28,9 @@ enum Step {
     Stop,
 }
 
-fn cut_short(index: u64) -> Step {
-    print_number(index, b" is cut short\n");
-    Step::Stop
+fn cut_short(rt: &impl Print, index: u64) -> io::Result<Step> {
+    print_number(rt, index, " is cut short\n")?;
+    Ok(Step::Stop)
 }
 
 fn accepted(c: Verdict) -> u64 {
@@ -38,135 +41,143 @@ fn accepted(c: Verdict) -> u64 {
 }
 
 // The report of a listing; 1 if it is accepted, else 0.
-fn print_report(listing: &[u8]) -> u64 {
+fn print_report(rt: &impl Print, listing: &[u8]) -> io::Result<u64> {
     let mut work = [0u32; 16384];
-    let mut output = io::large_buffer();
+    let mut output = [0u8; 65536];
     let r = examiner::report::report(listing, &mut work, &mut output);
     let n = r.length;
-    io::write_all(STDOUT_FILENO, &output[..n]);
+    rt.write_all(&output[..n])?;
     let c = r.answer;
-    accepted(c)
+    Ok(accepted(c))
 }
 
 // The name of an item. Is there one?
-fn print_item(listing: &[u8], path: u32, position: u32) -> bool {
+fn print_item(rt: &impl Print, listing: &[u8], path: u32, position: u32) -> io::Result<bool> {
     let mut work = [0u32; 16384];
     let part = name(listing, &mut work, path, position);
     if part.len() == 0 {
-        return false;
+        return Ok(false);
     }
-    io::write_all(STDOUT_FILENO, b"N,");
-    print_number(wide(path), b",");
-    print_number(wide(position), b",");
-    io::write_all(STDOUT_FILENO, part);
-    io::write_all(STDOUT_FILENO, b"\n");
-    true
+    print!(rt; "N,")?;
+    print_number(rt, wide(path), ",")?;
+    print_number(rt, wide(position), ",")?;
+    rt.write_all(part)?;
+    println!(rt;)?;
+    Ok(true)
 }
 
 // The names of a path's items, from the top.
-fn print_path(listing: &[u8], path: u32) {
+fn print_path(rt: &impl Print, listing: &[u8], path: u32) -> io::Result<()> {
     let mut position: u32 = 0;
     while position < ASKED {
-        if !print_item(listing, path, position) {
-            return;
+        if !print_item(rt, listing, path, position)? {
+            return Ok(());
         }
         position += 1;
     }
+    Ok(())
 }
 
-fn print_names(listing: &[u8]) {
+fn print_names(rt: &impl Print, listing: &[u8]) -> io::Result<()> {
     let mut path: u32 = 0;
     while path < ASKED {
-        print_path(listing, path);
+        print_path(rt, listing, path)?;
         path += 1;
     }
+    Ok(())
 }
 
-fn counted(listing: &[u8], t: Tally) -> Tally {
-    let more = print_report(listing);
-    print_names(listing);
-    Tally {
-        listings: std::num::wrapping_add_u64(t.listings, 1),
-        accepted: std::num::wrapping_add_u64(t.accepted, more),
-    }
+fn counted(rt: &impl Print, listing: &[u8], t: Tally) -> io::Result<Tally> {
+    let more = print_report(rt, listing)?;
+    print_names(rt, listing)?;
+    Ok(Tally {
+        listings: t.listings.wrapping_add(1),
+        accepted: t.accepted.wrapping_add(more),
+    })
 }
 
 // The record of a listing: its bytes, and the byte 10 after them.
-fn report_record(fd: i32, size: usize, t: Tally) -> Step {
+fn report_record(
+    rt: &impl Print,
+    input: &mut impl Read,
+    size: usize,
+    t: Tally,
+) -> io::Result<Step> {
     let mut buffer = [0u8; 32768];
-    let n = read_bytes(fd, size, &mut buffer);
+    let n = read_bytes(input, size, &mut buffer)?;
     if n < size {
-        return cut_short(t.listings);
+        return cut_short(rt, t.listings);
     }
-    if !read_end(fd) {
-        return cut_short(t.listings);
+    if !read_end(input)? {
+        return cut_short(rt, t.listings);
     }
-    Step::On(counted(&buffer[..n], t))
+    Ok(Step::On(counted(rt, &buffer[..n], t)?))
 }
 
-fn next_listing(fd: i32, t: Tally) -> Step {
-    let head = read_head(fd, b'\n');
+fn next_listing(rt: &impl Print, input: &mut impl Read, t: Tally) -> io::Result<Step> {
+    let head = read_head(input, b'\n')?;
     match head {
-        Head::Of(size) => report_record(fd, size, t),
-        Head::End => cut_short(t.listings),
-        Head::Cut => cut_short(t.listings),
+        Head::Of(size) => report_record(rt, input, size, t),
+        Head::End => cut_short(rt, t.listings),
+        Head::Cut => cut_short(rt, t.listings),
     }
 }
 
 // Prints the record of a file's name as a line. Was it whole?
-fn print_file(fd: i32, size: usize) -> bool {
+fn print_file(rt: &impl Print, input: &mut impl Read, size: usize) -> io::Result<bool> {
     let mut buffer = [0u8; 4096];
-    let n = read_bytes(fd, size, &mut buffer);
+    let n = read_bytes(input, size, &mut buffer)?;
     if n < size {
-        return false;
+        return Ok(false);
     }
-    io::write_all(STDOUT_FILENO, &buffer[..n]);
-    io::write_all(STDOUT_FILENO, b"\n");
-    read_end(fd)
+    rt.write_all(&buffer[..n])?;
+    println!(rt;)?;
+    read_end(input)
 }
 
-fn file_record(fd: i32, size: usize, t: Tally) -> Step {
-    if !print_file(fd, size) {
-        return cut_short(t.listings);
+fn file_record(
+    rt: &impl Print,
+    input: &mut impl Read,
+    size: usize,
+    t: Tally,
+) -> io::Result<Step> {
+    if !print_file(rt, input, size)? {
+        return cut_short(rt, t.listings);
     }
-    next_listing(fd, t)
+    next_listing(rt, input, t)
 }
 
 // A name and its listing.
-fn next_sample(fd: i32, t: Tally) -> Step {
-    let head = read_head(fd, b'\n');
+fn next_sample(rt: &impl Print, input: &mut impl Read, t: Tally) -> io::Result<Step> {
+    let head = read_head(input, b'\n')?;
     match head {
-        Head::Of(size) => file_record(fd, size, t),
-        Head::End => Step::Stop,
-        Head::Cut => cut_short(t.listings),
+        Head::Of(size) => file_record(rt, input, size, t),
+        Head::End => Ok(Step::Stop),
+        Head::Cut => cut_short(rt, t.listings),
     }
 }
 
 // All samples. Nothing says that a file ends, so the turns are counted down.
-fn report_all(fd: i32) -> Tally {
+fn report_all(rt: &impl Print, input: &mut impl Read) -> io::Result<Tally> {
     let mut t = Tally {
         listings: 0,
         accepted: 0,
     };
     let mut turns: u32 = 100000;
     while turns > 0 {
-        let Step::On(next) = next_sample(fd, t) else {
-            return t;
+        let Step::On(next) = next_sample(rt, input, t)? else {
+            return Ok(t);
         };
         t = next;
         turns -= 1;
     }
-    t
+    Ok(t)
 }
 
-fn main() {
-    let fd = os::open_read(b"listings");
-    if fd < 0 {
-        os::fail(b"listings");
-        return;
-    }
-    let t = report_all(fd);
-    libc::close(fd);
-    print_number(t.listings, b" listings, ");
-    print_number(t.accepted, b" accepted\n");
+fn main(rt: HostRuntime) -> Result<()> {
+    let mut file = File::open(&rt, "listings").context("listings")?;
+    let t = report_all(&rt, &mut file)?;
+    print_number(&rt, t.listings, " listings, ")?;
+    print_number(&rt, t.accepted, " accepted\n")?;
+    Ok(())
 }

@@ -5,9 +5,10 @@
 ghost use Rattle.lent_path.specs.Lent.{Kept, take_at, transfer_at};
 
 use lent_path::{Answered, Left, bithoven_take, bithoven_transfer, take_at, transfer_at};
-use libc::{STDIN_FILENO, STDOUT_FILENO};
 use paths::{NamePlace, Path};
 use reading::{ListingRead, read_listing};
+use records::read_full;
+use std::io;
 
 // A path that was lent at each step, and the same by value.
 #[derive(Clone, Copy)]
@@ -44,9 +45,8 @@ fn wide(x: u32) -> u64 {
     x as u64
 }
 
-fn print_number(n: u32, after: &[u8]) {
-    io::print_decimal(STDOUT_FILENO, wide(n));
-    io::write_all(STDOUT_FILENO, after);
+fn print_number(rt: &impl Print, n: u32, after: &str) -> io::Result<()> {
+    records::print_number(rt, wide(n), after)
 }
 
 fn same_answer(a: Answered, b: Answered) -> bool {
@@ -92,57 +92,66 @@ fn same_path(a: Path, b: Path) -> bool {
 }
 
 // A step's answer, the path's taken set, the lines that took its first two items, and whether both ways agree.
-fn print_step(name: &[u8], i: usize, lent: Left, held: Left) {
+fn print_step(rt: &impl Print, name: &str, i: usize, lent: Left, held: Left) -> io::Result<()> {
     let a = lent.answered;
     let b = held.answered;
     let p = lent.path;
     let q = held.path;
-    io::write_all(STDOUT_FILENO, name);
-    io::print_decimal(STDOUT_FILENO, i as u64);
-    io::write_all(STDOUT_FILENO, b": ");
-    print_number(a.number, b",");
-    print_number(a.start, b",");
-    print_number(a.end, b",");
-    print_number(a.line, b",");
-    print_number(a.column, b"; taken ");
-    print_number(p.taken, b" by ");
+    print!(rt; "{name}{i}: ")?;
+    print_number(rt, a.number, ",")?;
+    print_number(rt, a.start, ",")?;
+    print_number(rt, a.end, ",")?;
+    print_number(rt, a.line, ",")?;
+    print_number(rt, a.column, "; taken ")?;
+    print_number(rt, p.taken, " by ")?;
     let first = p.places[0];
     let second = p.places[1];
-    print_number(first.line as u32, b",");
-    print_number(second.line as u32, b"; ");
+    print_number(rt, first.line as u32, ",")?;
+    print_number(rt, second.line as u32, "; ")?;
     if !same_answer(a, b) {
-        io::write_all(STDOUT_FILENO, b"OTHER ANSWER\n");
-        return;
+        return println!(rt; "OTHER ANSWER");
     }
     if !same_path(p, q) {
-        io::write_all(STDOUT_FILENO, b"OTHER PATH\n");
-        return;
+        return println!(rt; "OTHER PATH");
     }
-    io::write_all(STDOUT_FILENO, b"same\n");
+    println!(rt; "same")
 }
 
-fn take_both(listing: &[u8], table: &[u32], i: usize, p: Both) -> Both {
+fn take_both(
+    rt: &impl Print,
+    listing: &[u8],
+    table: &[u32],
+    i: usize,
+    p: Both,
+) -> io::Result<Both> {
     let a = p.lent;
     let b = p.held;
     let lent = take_through(listing, table, i, a);
     let held = take_at(listing, table, i, b);
-    print_step(b"take ", i, lent, held);
+    print_step(rt, "take ", i, lent, held)?;
     let x = lent.path;
     let y = held.path;
-    Both { lent: x, held: y }
+    Ok(Both { lent: x, held: y })
 }
 
-fn transfer_both(listing: &[u8], table: &[u32], i: usize, from: Both, p: Both) -> Both {
+fn transfer_both(
+    rt: &impl Print,
+    listing: &[u8],
+    table: &[u32],
+    i: usize,
+    from: Both,
+    p: Both,
+) -> io::Result<Both> {
     let f = from.lent;
     let g = from.held;
     let a = p.lent;
     let b = p.held;
     let lent = transfer_through(listing, table, i, f, a);
     let held = transfer_at(listing, table, i, g, b);
-    print_step(b"transfer ", i, lent, held);
+    print_step(rt, "transfer ", i, lent, held)?;
     let x = lent.path;
     let y = held.path;
-    Both { lent: x, held: y }
+    Ok(Both { lent: x, held: y })
 }
 
 // A path of two items, and those of them that are taken.
@@ -167,51 +176,50 @@ fn two_items(top: u16, below: u16, taken: u32) -> Both {
 }
 
 // Rows 2 and 3 are the items of the first path, 5 and 6 of the second; row 8 is the if, 9 its condition, 14 and 19 are variables.
-fn drive(listing: &[u8], table: &[u32]) {
+fn drive(rt: &impl Print, listing: &[u8], table: &[u32]) -> io::Result<()> {
     let fresh = two_items(3, 2, 0);
     let mut p = two_items(3, 2, 0);
     let mut q = two_items(6, 5, 0);
-    p = take_both(listing, table, 14, p);
-    p = take_both(listing, table, 9, p);
-    p = take_both(listing, table, 9, p);
-    p = take_both(listing, table, 19, p);
-    p = take_both(listing, table, 15, p);
-    p = take_both(listing, table, 5000, p);
-    q = transfer_both(listing, table, 9, p, q);
-    q = transfer_both(listing, table, 8, fresh, q);
-    q = transfer_both(listing, table, 8, p, q);
-    p = take_both(listing, table, 14, p);
-    q = transfer_both(listing, table, 8, p, q);
-    q = take_both(listing, table, 9, q);
-    q = take_both(listing, table, 19, q);
-    q = transfer_both(listing, table, 8, q, q);
-    p = transfer_both(listing, table, 8, q, p);
+    p = take_both(rt, listing, table, 14, p)?;
+    p = take_both(rt, listing, table, 9, p)?;
+    p = take_both(rt, listing, table, 9, p)?;
+    p = take_both(rt, listing, table, 19, p)?;
+    p = take_both(rt, listing, table, 15, p)?;
+    p = take_both(rt, listing, table, 5000, p)?;
+    q = transfer_both(rt, listing, table, 9, p, q)?;
+    q = transfer_both(rt, listing, table, 8, fresh, q)?;
+    q = transfer_both(rt, listing, table, 8, p, q)?;
+    p = take_both(rt, listing, table, 14, p)?;
+    q = transfer_both(rt, listing, table, 8, p, q)?;
+    q = take_both(rt, listing, table, 9, q)?;
+    q = take_both(rt, listing, table, 19, q)?;
+    q = transfer_both(rt, listing, table, 8, q, q)?;
+    p = transfer_both(rt, listing, table, 8, q, p)?;
     // no paths: row 8 is no item's
     let mut bad = two_items(3, 8, 0);
-    bad = take_both(listing, table, 9, bad);
-    bad = transfer_both(listing, table, 8, p, bad);
-    p = transfer_both(listing, table, 8, bad, p);
-    take_both(listing, table, 9, p);
+    bad = take_both(rt, listing, table, 9, bad)?;
+    bad = transfer_both(rt, listing, table, 8, p, bad)?;
+    p = transfer_both(rt, listing, table, 8, bad, p)?;
+    take_both(rt, listing, table, 9, p)?;
     // nor where the top is passed over
     let mut gap = two_items(3, 2, 2);
-    gap = take_both(listing, table, 9, gap);
-    gap = transfer_both(listing, table, 8, fresh, gap);
-    transfer_both(listing, table, 8, gap, q);
+    gap = take_both(rt, listing, table, 9, gap)?;
+    gap = transfer_both(rt, listing, table, 8, fresh, gap)?;
+    transfer_both(rt, listing, table, 8, gap, q)?;
+    Ok(())
 }
 
-fn read_and_drive(listing: &[u8]) {
+fn read_and_drive(rt: &impl Print, listing: &[u8]) -> io::Result<()> {
     let mut work = [0u32; 16384];
     let r = read_listing(listing, &mut work);
     match r {
-        ListingRead::Rows(_) => drive(listing, &work),
-        ListingRead::Refused(_) => {
-            io::write_all(STDOUT_FILENO, b"the listing is refused\n");
-        }
+        ListingRead::Rows(_) => drive(rt, listing, &work),
+        ListingRead::Refused(_) => println!(rt; "the listing is refused"),
     }
 }
 
-fn main() {
-    let mut listing = io::large_buffer();
-    let n = io::read_full(STDIN_FILENO, &mut listing);
-    read_and_drive(&listing[..n]);
+fn main(rt: HostRuntime) -> io::Result<()> {
+    let mut listing = [0u8; 65536];
+    let n = read_full(&mut rt.stdin(), &mut listing)?;
+    read_and_drive(&rt, &listing[..n])
 }

@@ -2,12 +2,16 @@
 // refusal, or 0 and the count of lines. tools/reading_vectors.py writes the listings and what is to be printed.
 #![tactic(auto)]
 
+use anyhow::{Context, Result};
 use ast::CompileError;
 use reading::ListingRead;
 use records::{
-    FILLED, Head, digit, not_cleared, print_number, read_bytes, read_end, read_head, touched,
-    touched_past, wide,
+    FILLED, Head, digit, not_cleared, print_number, read_bytes, read_end, read_full, read_head,
+    touched, touched_past, wide,
 };
+use std::fs::File;
+use std::io;
+use std::io::Read;
 
 // The number and the line that are due, which end a record's head.
 #[derive(Clone, Copy)]
@@ -34,17 +38,17 @@ struct Tally {
 }
 
 // The rest of a head after the comma: `number,line` in 1 and 4 digits, and byte 10.
-fn read_due(fd: i32) -> Due {
+fn read_due(input: &mut impl Read) -> io::Result<Due> {
     let mut rest = [0u8; 7];
-    io::read_full(fd, &mut rest);
+    read_full(input, &mut rest)?;
     let a = digit(rest[2]);
     let b = digit(rest[3]);
     let c = digit(rest[4]);
     let d = digit(rest[5]);
-    Due {
+    Ok(Due {
         number: digit(rest[0]) as u64,
         line: (1000 * a + 100 * b + 10 * c + d) as u64,
-    }
+    })
 }
 
 fn answer_of(r: ListingRead) -> Answer {
@@ -69,25 +73,25 @@ fn refusal(e: CompileError) -> Answer {
     }
 }
 
-fn print_answer(index: u64, a: Answer) {
-    print_number(index, b",");
-    print_number(a.number, b",");
-    print_number(a.line, b"\n");
+fn print_answer(rt: &impl Print, index: u64, a: Answer) -> io::Result<()> {
+    print_number(rt, index, ",")?;
+    print_number(rt, a.number, ",")?;
+    print_number(rt, a.line, "\n")
 }
 
 // 1 where the answer is another than the record's, which is then said.
-fn differs(index: u64, a: Answer, due: Due) -> u64 {
+fn differs(rt: &impl Print, index: u64, a: Answer, due: Due) -> io::Result<u64> {
     if a.number == due.number {
         if a.line == due.line {
             if a.rest == 0 {
-                return 0;
+                return Ok(0);
             }
         }
     }
-    print_number(index, b" differs: ");
-    print_number(due.number, b" at 0,0,");
-    print_number(due.line, b",0 is due\n");
-    1
+    print_number(rt, index, " differs: ")?;
+    print_number(rt, due.number, " at 0,0,")?;
+    print_number(rt, due.line, ",0 is due\n")?;
+    Ok(1)
 }
 
 // After a refusal 16384 words are zero; those past them are never touched.
@@ -96,58 +100,66 @@ fn wrong_words(work: &[u32; 16400], number: u64) -> u64 {
     if number == 0 {
         return past;
     }
-    std::num::wrapping_add_u64(past, not_cleared(work))
+    past.wrapping_add(not_cleared(work))
 }
 
 // A listing is read with work enough.
-fn examine(index: u64, listing: &[u8], due: Due, t: Tally) -> Tally {
+fn examine(
+    rt: &impl Print,
+    index: u64,
+    listing: &[u8],
+    due: Due,
+    t: Tally,
+) -> io::Result<Tally> {
     let mut work = [FILLED; 16400];
     let a = answer_of(reading::read_listing(listing, &mut work));
-    print_answer(index, a);
-    let differ = std::num::wrapping_add_u64(t.differ, differs(index, a, due));
-    let wrong = std::num::wrapping_add_u64(t.wrong, wrong_words(&work, a.number));
-    Tally {
-        listings: std::num::wrapping_add_u64(t.listings, 1),
+    print_answer(rt, index, a)?;
+    let differ = t.differ.wrapping_add(differs(rt, index, a, due)?);
+    let wrong = t.wrong.wrapping_add(wrong_words(&work, a.number));
+    Ok(Tally {
+        listings: t.listings.wrapping_add(1),
         differ,
         wrong,
-    }
+    })
 }
 
 // With a word too few the answer is 5 at 0,0,0,0, and work is as it was.
-fn examine_short(index: u64, listing: &[u8], t: Tally) -> Tally {
+fn examine_short(rt: &impl Print, index: u64, listing: &[u8], t: Tally) -> io::Result<Tally> {
     let mut work = [FILLED; 16400];
     let a = answer_of(reading::read_listing(listing, &mut work[..16383]));
-    print_number(index, b" with short work,");
-    print_number(a.number, b",");
-    print_number(a.line, b"\n");
-    let differ = std::num::wrapping_add_u64(
-        t.differ,
-        differs(index, a, Due { number: 5, line: 0 }),
-    );
-    let wrong = std::num::wrapping_add_u64(t.wrong, touched(&work));
-    Tally {
+    print_number(rt, index, " with short work,")?;
+    print_number(rt, a.number, ",")?;
+    print_number(rt, a.line, "\n")?;
+    let differ = t.differ.wrapping_add(differs(rt, index, a, Due { number: 5, line: 0 })?);
+    let wrong = t.wrong.wrapping_add(touched(&work));
+    Ok(Tally {
         listings: t.listings,
         differ,
         wrong,
-    }
+    })
 }
 
 // One record: its bytes, and the byte 10 after them. The first three are also read with work too short.
-fn examine_record(fd: i32, size: usize, t: Tally) -> Tally {
-    let due = read_due(fd);
-    let mut buffer = io::large_buffer();
-    let n = read_bytes(fd, size, &mut buffer);
-    read_end(fd);
+fn examine_record(
+    rt: &impl Print,
+    input: &mut impl Read,
+    size: usize,
+    t: Tally,
+) -> io::Result<Tally> {
+    let due = read_due(input)?;
+    let mut buffer = [0u8; 65536];
+    let n = read_bytes(input, size, &mut buffer)?;
+    read_end(input)?;
     let index = t.listings;
     if index < 3 {
-        let u = examine_short(index, &buffer[..n], t);
-        return examine(index, &buffer[..n], due, u);
+        let u = examine_short(rt, index, &buffer[..n], t)?;
+        return examine(rt, index, &buffer[..n], due, u);
     }
-    examine(index, &buffer[..n], due, t)
+    examine(rt, index, &buffer[..n], due, t)
 }
 
 // All records. Nothing says that a file ends, so the turns are counted down.
-fn examine_all(fd: i32) -> Tally {
+fn examine_all(rt: &impl Print, input: &mut impl Read) -> io::Result<Tally> {
     let mut t = Tally {
         listings: 0,
         differ: 0,
@@ -155,24 +167,20 @@ fn examine_all(fd: i32) -> Tally {
     };
     let mut turns: u32 = 100000;
     while turns > 0 {
-        let Head::Of(size) = read_head(fd, b',') else {
-            return t;
+        let Head::Of(size) = read_head(input, b',')? else {
+            return Ok(t);
         };
-        t = examine_record(fd, size, t);
+        t = examine_record(rt, input, size, t)?;
         turns -= 1;
     }
-    t
+    Ok(t)
 }
 
-fn main() {
-    let fd = os::open_read(b"listings");
-    if fd < 0 {
-        os::fail(b"listings");
-        return;
-    }
-    let t = examine_all(fd);
-    libc::close(fd);
-    print_number(t.listings, b" listings, ");
-    print_number(t.differ, b" differ, ");
-    print_number(t.wrong, b" words of work wrong\n");
+fn main(rt: HostRuntime) -> Result<()> {
+    let mut file = File::open(&rt, "listings").context("listings")?;
+    let t = examine_all(&rt, &mut file)?;
+    print_number(&rt, t.listings, " listings, ")?;
+    print_number(&rt, t.differ, " differ, ")?;
+    print_number(&rt, t.wrong, " words of work wrong\n")?;
+    Ok(())
 }

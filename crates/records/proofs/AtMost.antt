@@ -7,9 +7,9 @@ use lib.Dec.{eqb}
 use lib.ListN.{length}
 use Rattle.records.specs.Wrong.{wrong_word, wrong_in}
 
-pub at_most_one : (d x : ℕ) → wrong_word d x ≤ 1
+pub at-most-one : (d x : ℕ) → wrong_word d x ≤ 1
 unfolding wrong_word
-at_most_one d x = go (eqb x d)
+at-most-one d x = go (eqb x d)
   where
     go : (b : Bool) → cond b 0 1 ≤ 1
     go true = omega arith
@@ -18,4 +18,4 @@ at_most_one d x = go (eqb x d)
 pub at-most-all : (d : ℕ) (t : List ℕ) → wrong_in d t ≤ length t
 unfolding wrong_in
 at-most-all d [] = omega arith
-at-most-all d (x ∷ xs) = omega (arith, at_most_one d x, at-most-all d xs)
+at-most-all d (x ∷ xs) = omega (arith, at-most-one d x, at-most-all d xs)

@@ -3,10 +3,11 @@
 #![tactic(auto)]
 
 ghost use Rattle.std.specs.Prelude.{◌≡◌, ◌%◌, ◌+◌, take, drop};
+ghost use Rattle.std.specs.Io.{ReadsAtMost};
 ghost use Rattle.records.specs.Wrong.{wrong_word, wrong_in};
-ghost use Rattle.io.specs.Counts.{IsPrefixLen};
 
-use libc::STDOUT_FILENO;
+use std::io;
+use std::io::Read;
 
 // What work memory holds before a call. It has 16 words more than are asked.
 pub const FILLED: u32 = 7;
@@ -42,44 +43,59 @@ fn length_in(head: &[u8; 6]) -> usize {
     10000 * a + 1000 * b + 100 * c + 10 * d + e
 }
 
+// Reads until the buffer is full or the input ends, and answers how many bytes it put at the buffer's start. A read that fails is
+// the error.
+pub fn read_full<R: Read>(reader: &mut R, buffer: &mut [u8]) -> io::Result<usize>
+    ensures { ReadsAtMost result buffer.new }
+{
+    let mut done = 0;
+    while done < buffer.len() {
+        let n = reader.read(&mut buffer[done..])?;
+        if n == 0 {
+            break;
+        }
+        done += n;
+    }
+    Ok(done)
+}
+
 // The next head's five digits, and the byte that must stand after them.
-pub fn read_head(fd: i32, after: u8) -> Head {
+pub fn read_head<R: Read>(reader: &mut R, after: u8) -> io::Result<Head> {
     let mut head = [0u8; 6];
-    let n = io::read_full(fd, &mut head);
+    let n = read_full(reader, &mut head)?;
     if n == 0 {
-        return Head::End;
+        return Ok(Head::End);
     }
     if n < 6 {
-        return Head::Cut;
+        return Ok(Head::Cut);
     }
     if head[5] != after {
-        return Head::Cut;
+        return Ok(Head::Cut);
     }
-    Head::Of(length_in(&head))
+    Ok(Head::Of(length_in(&head)))
 }
 
 // The next `size` bytes, at the start of the buffer; none where it is too small.
-pub fn read_bytes(fd: i32, size: usize, buffer: &mut [u8]) -> usize
-    ensures { IsPrefixLen result buffer.new }
+pub fn read_bytes<R: Read>(reader: &mut R, size: usize, buffer: &mut [u8]) -> io::Result<usize>
+    ensures { ReadsAtMost result buffer.new }
 {
     if size > buffer.len() {
-        return 0;
+        return Ok(0);
     }
-    io::read_full(fd, &mut buffer[..size])
+    read_full(reader, &mut buffer[..size])
 }
 
 // Is the next byte a 10?
-pub fn read_end(fd: i32) -> bool {
+pub fn read_end<R: Read>(reader: &mut R) -> io::Result<bool> {
     let mut end = [0u8; 1];
-    if io::read_full(fd, &mut end) < 1 {
-        return false;
+    if read_full(reader, &mut end)? < 1 {
+        return Ok(false);
     }
-    end[0] == b'\n'
+    Ok(end[0] == b'\n')
 }
 
-pub fn print_number(n: u64, after: &[u8]) {
-    io::print_decimal(STDOUT_FILENO, n);
-    io::write_all(STDOUT_FILENO, after);
+pub fn print_number(rt: &impl Print, n: u64, after: &str) -> io::Result<()> {
+    print!(rt; "{n}{after}")
 }
 
 // 1 for a word that is not `due`.

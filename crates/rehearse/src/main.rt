@@ -10,8 +10,11 @@
 #![tactic(auto)]
 
 use ast::{CompileError, Type};
-use libc::{STDIN_FILENO, STDOUT_FILENO};
-use records::{FILLED, Head, print_number, read_bytes, read_end, read_head, wide, wrong_words};
+use records::{
+    FILLED, Head, print_number, read_bytes, read_end, read_full, read_head, wide, wrong_words,
+};
+use std::io;
+use std::io::Read;
 use text::{COMMA, Place, WordRead};
 use turns::{Rehearsal, Rehearsed};
 use words::read_word;
@@ -38,67 +41,67 @@ enum RehearsalRead {
     Failed,
 }
 
-fn print_refusal(e: CompileError) {
+fn print_refusal(rt: &impl Print, e: CompileError) -> io::Result<()> {
     let kind = e.kind;
     let loc = e.loc;
-    print_number(wide(ast::numbers::error_number(kind)), b",");
-    print_number(wide(loc.start), b",");
-    print_number(wide(loc.end), b",");
-    print_number(wide(loc.line), b",");
-    print_number(wide(loc.column), b" - -\n");
+    print_number(rt, wide(ast::numbers::error_number(kind)), ",")?;
+    print_number(rt, wide(loc.start), ",")?;
+    print_number(rt, wide(loc.end), ",")?;
+    print_number(rt, wide(loc.line), ",")?;
+    print_number(rt, wide(loc.column), " - -\n")
 }
 
-fn print_rehearsal(r: Rehearsal) {
-    io::write_all(STDOUT_FILENO, b"0,0,0,0,0 ");
-    print_number(wide(r.path), b",");
-    print_number(wide(r.due), b" ");
+fn print_rehearsal(rt: &impl Print, r: Rehearsal) -> io::Result<()> {
+    print!(rt; "0,0,0,0,0 ")?;
+    print_number(rt, wide(r.path), ",")?;
+    print_number(rt, wide(r.due), " ")
 }
 
-fn print_item(name: Place, ty: Type) {
-    io::write_all(STDOUT_FILENO, b"1,");
-    print_number(name.at as u64, b",");
-    print_number(name.len as u64, b",");
-    print_number(wide(ast::numbers::type_number(ty)), b"\n");
+fn print_item(rt: &impl Print, name: Place, ty: Type) -> io::Result<()> {
+    print!(rt; "1,")?;
+    print_number(rt, name.at as u64, ",")?;
+    print_number(rt, name.len as u64, ",")?;
+    print_number(rt, wide(ast::numbers::type_number(ty)), "\n")
 }
 
-fn print_answer(x: Rehearsed) {
+fn print_answer(rt: &impl Print, x: Rehearsed) -> io::Result<()> {
     match x {
         Rehearsed::Due(name, ty, r) => {
-            print_rehearsal(r);
-            print_item(name, ty);
+            print_rehearsal(rt, r)?;
+            print_item(rt, name, ty)
         }
         Rehearsed::Ended(r) => {
-            print_rehearsal(r);
-            io::write_all(STDOUT_FILENO, b"0,0,0,0\n");
+            print_rehearsal(rt, r)?;
+            print!(rt; "0,0,0,0\n")
         }
-        Rehearsed::Refused(e) => print_refusal(e),
+        Rehearsed::Refused(e) => print_refusal(rt, e),
     }
 }
 
 // A call's answer, and the work that it left.
-fn answered(x: Rehearsed, work: &[u32; 16400], t: Tally) -> Tally {
-    print_answer(x);
-    Tally {
-        calls: std::num::wrapping_add_u64(t.calls, 1),
-        wrong: std::num::wrapping_add_u64(t.wrong, wrong_words(work)),
-    }
+fn answered(rt: &impl Print, x: Rehearsed, work: &[u32; 16400], t: Tally) -> io::Result<Tally> {
+    print_answer(rt, x)?;
+    Ok(Tally {
+        calls: t.calls.wrapping_add(1),
+        wrong: t.wrong.wrapping_add(wrong_words(work)),
+    })
 }
 
-fn no_call(t: Tally) -> Tally {
-    io::write_all(STDOUT_FILENO, b"no call\n");
-    t
+fn no_call(rt: &impl Print, t: Tally) -> io::Result<Tally> {
+    print!(rt; "no call\n")?;
+    Ok(t)
 }
 
-fn open_call(listing: &[u8], call: &[u8], t: Tally) -> Tally {
+fn open_call(rt: &impl Print, listing: &[u8], call: &[u8], t: Tally) -> io::Result<Tally> {
     let WordRead::Got(path, n) = read_word(call, 0) else {
-        return no_call(t);
+        return no_call(rt, t);
     };
     if n != call.len() {
-        return no_call(t);
+        return no_call(rt, t);
     }
     let mut work = [FILLED; 16400];
     let x = rehearsal::open(listing, &mut work, path);
-    answered(x, &work, t)
+    answered(rt, x, &work, t)
 }
 
 fn read_rehearsal(call: &[u8]) -> RehearsalRead {
@@ -111,129 +114,170 @@ fn read_rehearsal(call: &[u8]) -> RehearsalRead {
     RehearsalRead::Got(Rehearsal { path, due }, m)
 }
 
-fn back_call(listing: &[u8], call: &[u8], t: Tally) -> Tally {
+fn back_call(rt: &impl Print, listing: &[u8], call: &[u8], t: Tally) -> io::Result<Tally> {
     let RehearsalRead::Got(r, n) = read_rehearsal(call) else {
-        return no_call(t);
+        return no_call(rt, t);
     };
     if n != call.len() {
-        return no_call(t);
+        return no_call(rt, t);
     }
     let mut work = [FILLED; 16400];
     let x = rehearsal::take_back(listing, &mut work, r);
-    answered(x, &work, t)
+    answered(rt, x, &work, t)
 }
 
-fn lay_named(listing: &[u8], r: Rehearsal, ty: u32, name: &[u8], t: Tally) -> Tally {
+fn lay_named(
+    rt: &impl Print,
+    listing: &[u8],
+    r: Rehearsal,
+    ty: u32,
+    name: &[u8],
+    t: Tally,
+) -> io::Result<Tally> {
     let mut work = [FILLED; 16400];
     let x = rehearsal::lay(listing, &mut work, r, name, ty);
-    answered(x, &work, t)
+    answered(rt, x, &work, t)
 }
 
-fn lay_call(listing: &[u8], call: &[u8], t: Tally) -> Tally {
+fn lay_call(rt: &impl Print, listing: &[u8], call: &[u8], t: Tally) -> io::Result<Tally> {
     let RehearsalRead::Got(r, n) = read_rehearsal(call) else {
-        return no_call(t);
+        return no_call(rt, t);
     };
     let WordRead::Got(ty, m) = read_word(call, n) else {
-        return no_call(t);
+        return no_call(rt, t);
     };
     if call.len() <= m {
-        return no_call(t);
+        return no_call(rt, t);
     }
     if call[m] != COMMA {
-        return no_call(t);
+        return no_call(rt, t);
     }
     let from = m + 1;
-    lay_named(listing, r, ty, &call[from..], t)
+    lay_named(rt, listing, r, ty, &call[from..], t)
 }
 
 // A call, after its first byte.
-fn answer_call(kind: u8, listing: &[u8], call: &[u8], t: Tally) -> Tally {
+fn answer_call(
+    rt: &impl Print,
+    kind: u8,
+    listing: &[u8],
+    call: &[u8],
+    t: Tally,
+) -> io::Result<Tally> {
     match kind {
-        b'o' => open_call(listing, call, t),
-        b'l' => lay_call(listing, call, t),
-        b'b' => back_call(listing, call, t),
-        _ => no_call(t),
+        b'o' => open_call(rt, listing, call, t),
+        b'l' => lay_call(rt, listing, call, t),
+        b'b' => back_call(rt, listing, call, t),
+        _ => no_call(rt, t),
     }
 }
 
-fn cut_short(t: Tally) -> Step {
-    print_number(t.calls, b" calls, then a record that is cut short\n");
-    Step::Stop(t)
+fn cut_short(rt: &impl Print, t: Tally) -> io::Result<Step> {
+    print_number(rt, t.calls, " calls, then a record that is cut short\n")?;
+    Ok(Step::Stop(t))
 }
 
 // The rest of a call's record: its bytes, and the byte 10 after them.
-fn call_record(fd: i32, kind: u8, size: usize, listing: &[u8], t: Tally) -> Step {
-    let mut buffer = io::large_buffer();
-    let n = read_bytes(fd, size, &mut buffer);
+fn call_record(
+    rt: &impl Print,
+    input: &mut impl Read,
+    kind: u8,
+    size: usize,
+    listing: &[u8],
+    t: Tally,
+) -> io::Result<Step> {
+    let mut buffer = [0u8; 65536];
+    let n = read_bytes(input, size, &mut buffer)?;
     if n < size {
-        return cut_short(t);
+        return cut_short(rt, t);
     }
-    if !read_end(fd) {
-        return cut_short(t);
+    if !read_end(input)? {
+        return cut_short(rt, t);
     }
-    Step::On(answer_call(kind, listing, &buffer[..n], t))
+    Ok(Step::On(answer_call(rt, kind, listing, &buffer[..n], t)?))
 }
 
 // A record without a byte.
-fn empty_record(fd: i32, t: Tally) -> Step {
-    if !read_end(fd) {
-        return cut_short(t);
+fn empty_record(rt: &impl Print, input: &mut impl Read, t: Tally) -> io::Result<Step> {
+    if !read_end(input)? {
+        return cut_short(rt, t);
     }
-    Step::On(no_call(t))
+    Ok(Step::On(no_call(rt, t)?))
 }
 
 // A record, after its head.
-fn record(fd: i32, size: usize, listing: &[u8], t: Tally) -> Step {
+fn record(
+    rt: &impl Print,
+    input: &mut impl Read,
+    size: usize,
+    listing: &[u8],
+    t: Tally,
+) -> io::Result<Step> {
     if size < 1 {
-        return empty_record(fd, t);
+        return empty_record(rt, input, t);
     }
     let rest = size - 1;
     let mut first = [0u8; 1];
-    if io::read_full(fd, &mut first) < 1 {
-        return cut_short(t);
+    if read_full(input, &mut first)? < 1 {
+        return cut_short(rt, t);
     }
     let kind = first[0];
     if kind == b't' {
-        return Step::Listing(rest, t);
+        return Ok(Step::Listing(rest, t));
     }
-    call_record(fd, kind, rest, listing, t)
+    call_record(rt, input, kind, rest, listing, t)
 }
 
-fn next_record(fd: i32, listing: &[u8], t: Tally) -> Step {
-    let head = read_head(fd, b'\n');
+fn next_record(
+    rt: &impl Print,
+    input: &mut impl Read,
+    listing: &[u8],
+    t: Tally,
+) -> io::Result<Step> {
+    let head = read_head(input, b'\n')?;
     match head {
-        Head::Of(size) => record(fd, size, listing, t),
-        Head::End => Step::Stop(t),
-        Head::Cut => cut_short(t),
+        Head::Of(size) => record(rt, input, size, listing, t),
+        Head::End => Ok(Step::Stop(t)),
+        Head::Cut => cut_short(rt, t),
     }
 }
 
 // The calls on a listing, up to the next listing. Nothing says that a file ends, so the turns are counted down.
-fn answer_all(fd: i32, listing: &[u8], first: Tally) -> Step {
+fn answer_all(
+    rt: &impl Print,
+    input: &mut impl Read,
+    listing: &[u8],
+    first: Tally,
+) -> io::Result<Step> {
     let mut t = first;
     let mut turns: u32 = 1000000;
     while turns > 0 {
-        let step = next_record(fd, listing, t);
+        let step = next_record(rt, input, listing, t)?;
         let Step::On(next) = step else {
-            return step;
+            return Ok(step);
         };
         t = next;
         turns -= 1;
     }
-    Step::Stop(t)
+    Ok(Step::Stop(t))
 }
 
 // The rest of a listing's record, and the calls on it.
-fn listing_record(fd: i32, size: usize, t: Tally) -> Step {
-    let mut buffer = io::large_buffer();
-    let n = read_bytes(fd, size, &mut buffer);
+fn listing_record(
+    rt: &impl Print,
+    input: &mut impl Read,
+    size: usize,
+    t: Tally,
+) -> io::Result<Step> {
+    let mut buffer = [0u8; 65536];
+    let n = read_bytes(input, size, &mut buffer)?;
     if n < size {
-        return cut_short(t);
+        return cut_short(rt, t);
     }
-    if !read_end(fd) {
-        return cut_short(t);
+    if !read_end(input)? {
+        return cut_short(rt, t);
     }
-    answer_all(fd, &buffer[..n], t)
+    answer_all(rt, input, &buffer[..n], t)
 }
 
 // What is left of a step: how much was answered.
@@ -246,21 +290,21 @@ fn tally_of(step: Step) -> Tally {
 }
 
 // All listings. The calls before the first are made on a listing of no bytes.
-fn rehearse_all(fd: i32) -> Tally {
-    let mut step = answer_all(fd, b"", Tally { calls: 0, wrong: 0 });
+fn rehearse_all(rt: &impl Print, input: &mut impl Read) -> io::Result<Tally> {
+    let mut step = answer_all(rt, input, b"", Tally { calls: 0, wrong: 0 })?;
     let mut turns: u32 = 100000;
     while turns > 0 {
         let Step::Listing(size, t) = step else {
-            return tally_of(step);
+            return Ok(tally_of(step));
         };
-        step = listing_record(fd, size, t);
+        step = listing_record(rt, input, size, t)?;
         turns -= 1;
     }
-    tally_of(step)
+    Ok(tally_of(step))
 }
 
-fn main() {
-    let t = rehearse_all(STDIN_FILENO);
-    print_number(t.calls, b" calls, ");
-    print_number(t.wrong, b" words of work wrong\n");
+fn main(rt: HostRuntime) -> io::Result<()> {
+    let t = rehearse_all(&rt, &mut rt.stdin())?;
+    print_number(&rt, t.calls, " calls, ")?;
+    print_number(&rt, t.wrong, " words of work wrong\n")
 }

@@ -2,19 +2,20 @@
 // long is seen to be.
 #![tactic(auto)]
 
-use libc::{STDIN_FILENO, STDOUT_FILENO};
+use records::read_full;
+use std::io;
 
 // The report of a listing.
-fn print_report(listing: &[u8]) {
+fn print_report(rt: &impl Print, listing: &[u8]) -> io::Result<()> {
     let mut work = [0u32; 16384];
-    let mut output = io::large_buffer();
+    let mut output = [0u8; 65536];
     let r = examiner::report::report(listing, &mut work, &mut output);
     let n = r.length;
-    io::write_all(STDOUT_FILENO, &output[..n]);
+    rt.write_all(&output[..n])
 }
 
-fn main() {
-    let mut listing = io::large_buffer();
-    let n = io::read_full(STDIN_FILENO, &mut listing);
-    print_report(&listing[..n]);
+fn main(rt: HostRuntime) -> io::Result<()> {
+    let mut listing = [0u8; 65536];
+    let n = read_full(&mut rt.stdin(), &mut listing)?;
+    print_report(&rt, &listing[..n])
 }

@@ -3,8 +3,9 @@
 // is independent of the examiner.
 #![tactic(auto)]
 
-use libc::{STDIN_FILENO, STDOUT_FILENO};
 use records::{FILLED, Head, print_number, read_bytes, read_end, read_head, wide, wrong_words};
+use std::io;
+use std::io::Read;
 use verdicts::Verdict;
 
 // How many listings there were, how many were accepted, and how many words of work are not what is due.
@@ -38,58 +39,63 @@ fn accepted(number: u64) -> u64 {
 }
 
 // The report of a listing; how many words of work are wrong after it.
-fn print_report(listing: &[u8]) -> u64 {
+fn print_report(rt: &impl Print, listing: &[u8]) -> io::Result<u64> {
     let mut work = [FILLED; 16400];
-    let mut output = io::large_buffer();
+    let mut output = [0u8; 65536];
     let r = examiner::report::report(listing, &mut work, &mut output);
     let n = r.length;
-    io::write_all(STDOUT_FILENO, &output[..n]);
-    wrong_words(&work)
+    rt.write_all(&output[..n])?;
+    Ok(wrong_words(&work))
 }
 
-fn examine(listing: &[u8], t: Tally) -> Tally {
+fn examine(rt: &impl Print, listing: &[u8], t: Tally) -> io::Result<Tally> {
     let mut work = [FILLED; 16400];
     let number = answer_number(examiner::check(listing, &mut work));
     let wrong = wrong_words(&work);
-    print_number(t.listings, b",");
-    print_number(number, b"\n");
-    let more = std::num::wrapping_add_u64(wrong, print_report(listing));
-    Tally {
-        listings: std::num::wrapping_add_u64(t.listings, 1),
-        accepted: std::num::wrapping_add_u64(t.accepted, accepted(number)),
-        wrong: std::num::wrapping_add_u64(t.wrong, more),
-    }
+    print_number(rt, t.listings, ",")?;
+    print_number(rt, number, "\n")?;
+    let more = wrong.wrapping_add(print_report(rt, listing)?);
+    Ok(Tally {
+        listings: t.listings.wrapping_add(1),
+        accepted: t.accepted.wrapping_add(accepted(number)),
+        wrong: t.wrong.wrapping_add(more),
+    })
 }
 
-fn cut_short(index: u64) -> Step {
-    print_number(index, b" is cut short\n");
-    Step::Stop
+fn cut_short(rt: &impl Print, index: u64) -> io::Result<Step> {
+    print_number(rt, index, " is cut short\n")?;
+    Ok(Step::Stop)
 }
 
 // One record: its bytes, and the byte 10 after them.
-fn report_record(fd: i32, size: usize, t: Tally) -> Step {
+fn report_record(
+    rt: &impl Print,
+    input: &mut impl Read,
+    size: usize,
+    t: Tally,
+) -> io::Result<Step> {
     let mut buffer = [0u8; 32768];
-    let n = read_bytes(fd, size, &mut buffer);
+    let n = read_bytes(input, size, &mut buffer)?;
     if n < size {
-        return cut_short(t.listings);
+        return cut_short(rt, t.listings);
     }
-    if !read_end(fd) {
-        return cut_short(t.listings);
+    if !read_end(input)? {
+        return cut_short(rt, t.listings);
     }
-    Step::On(examine(&buffer[..n], t))
+    Ok(Step::On(examine(rt, &buffer[..n], t)?))
 }
 
-fn next_record(fd: i32, t: Tally) -> Step {
-    let head = read_head(fd, b'\n');
+fn next_record(rt: &impl Print, input: &mut impl Read, t: Tally) -> io::Result<Step> {
+    let head = read_head(input, b'\n')?;
     match head {
-        Head::Of(size) => report_record(fd, size, t),
-        Head::End => Step::Stop,
-        Head::Cut => cut_short(t.listings),
+        Head::Of(size) => report_record(rt, input, size, t),
+        Head::End => Ok(Step::Stop),
+        Head::Cut => cut_short(rt, t.listings),
     }
 }
 
 // All records. Nothing says that the input ends, so the turns are counted down.
-fn report_all(fd: i32) -> Tally {
+fn report_all(rt: &impl Print, input: &mut impl Read) -> io::Result<Tally> {
     let mut t = Tally {
         listings: 0,
         accepted: 0,
@@ -97,18 +103,18 @@ fn report_all(fd: i32) -> Tally {
     };
     let mut turns: u32 = 100000;
     while turns > 0 {
-        let Step::On(next) = next_record(fd, t) else {
-            return t;
+        let Step::On(next) = next_record(rt, input, t)? else {
+            return Ok(t);
         };
         t = next;
         turns -= 1;
     }
-    t
+    Ok(t)
 }
 
-fn main() {
-    let t = report_all(STDIN_FILENO);
-    print_number(t.listings, b" listings, ");
-    print_number(t.accepted, b" accepted, ");
-    print_number(t.wrong, b" words of work wrong\n");
+fn main(rt: HostRuntime) -> io::Result<()> {
+    let t = report_all(&rt, &mut rt.stdin())?;
+    print_number(&rt, t.listings, " listings, ")?;
+    print_number(&rt, t.accepted, " accepted, ")?;
+    print_number(&rt, t.wrong, " words of work wrong\n")
 }

@@ -2,8 +2,12 @@
 // the refusal, or five zeros. `harness/run vectors` writes the listings and what is to be printed: the original's answers.
 #![tactic(auto)]
 
+use anyhow::{Context, Result};
 use ast::CompileError;
 use records::{FILLED, Head, print_number, read_bytes, read_end, read_head, wide, wrong_words};
+use std::fs::File;
+use std::io;
+use std::io::Read;
 use verdicts::Verdict;
 
 // What Check answered. All are 0 where it accepted.
@@ -56,59 +60,64 @@ fn refusal(e: CompileError) -> Answer {
     }
 }
 
-fn print_answer(index: u64, a: Answer) {
-    print_number(index, b",");
-    print_number(a.number, b",");
-    print_number(a.start, b",");
-    print_number(a.end, b",");
-    print_number(a.line, b",");
-    print_number(a.column, b"\n");
+fn print_answer(rt: &impl Print, index: u64, a: Answer) -> io::Result<()> {
+    print_number(rt, index, ",")?;
+    print_number(rt, a.number, ",")?;
+    print_number(rt, a.start, ",")?;
+    print_number(rt, a.end, ",")?;
+    print_number(rt, a.line, ",")?;
+    print_number(rt, a.column, "\n")
 }
 
 fn accepted(a: Answer) -> u64 {
     if a.number == 0 { 1 } else { 0 }
 }
 
-fn examine(listing: &[u8], t: Tally) -> Tally {
+fn examine(rt: &impl Print, listing: &[u8], t: Tally) -> io::Result<Tally> {
     let mut work = [FILLED; 16400];
     let a = answer_of(examiner::check(listing, &mut work));
-    print_answer(t.listings, a);
-    Tally {
-        listings: std::num::wrapping_add_u64(t.listings, 1),
-        accepted: std::num::wrapping_add_u64(t.accepted, accepted(a)),
-        wrong: std::num::wrapping_add_u64(t.wrong, wrong_words(&work)),
-    }
+    print_answer(rt, t.listings, a)?;
+    Ok(Tally {
+        listings: t.listings.wrapping_add(1),
+        accepted: t.accepted.wrapping_add(accepted(a)),
+        wrong: t.wrong.wrapping_add(wrong_words(&work)),
+    })
 }
 
-fn cut_short(index: u64) -> Step {
-    print_number(index, b" is cut short\n");
-    Step::Stop
+fn cut_short(rt: &impl Print, index: u64) -> io::Result<Step> {
+    print_number(rt, index, " is cut short\n")?;
+    Ok(Step::Stop)
 }
 
 // One record: its bytes, and the byte 10 after them.
-fn examine_record(fd: i32, size: usize, t: Tally) -> Step {
+fn examine_record(
+    rt: &impl Print,
+    input: &mut impl Read,
+    size: usize,
+    t: Tally,
+) -> io::Result<Step> {
     let mut buffer = [0u8; 32768];
-    let n = read_bytes(fd, size, &mut buffer);
+    let n = read_bytes(input, size, &mut buffer)?;
     if n < size {
-        return cut_short(t.listings);
+        return cut_short(rt, t.listings);
     }
-    if !read_end(fd) {
-        return cut_short(t.listings);
+    if !read_end(input)? {
+        return cut_short(rt, t.listings);
     }
-    Step::On(examine(&buffer[..n], t))
+    Ok(Step::On(examine(rt, &buffer[..n], t)?))
 }
 
-fn next_record(fd: i32, t: Tally) -> Step {
-    let head = read_head(fd, b'\n');
+fn next_record(rt: &impl Print, input: &mut impl Read, t: Tally) -> io::Result<Step> {
+    let head = read_head(input, b'\n')?;
     match head {
-        Head::Of(size) => examine_record(fd, size, t),
-        Head::End => Step::Stop,
-        Head::Cut => cut_short(t.listings),
+        Head::Of(size) => examine_record(rt, input, size, t),
+        Head::End => Ok(Step::Stop),
+        Head::Cut => cut_short(rt, t.listings),
     }
 }
 
 // All records. Nothing says that a file ends, so the turns are counted down.
-fn examine_all(fd: i32) -> Tally {
+fn examine_all(rt: &impl Print, input: &mut impl Read) -> io::Result<Tally> {
     let mut t = Tally {
         listings: 0,
         accepted: 0,
@@ -116,24 +125,20 @@ fn examine_all(fd: i32) -> Tally {
     };
     let mut turns: u32 = 100000;
     while turns > 0 {
-        let Step::On(next) = next_record(fd, t) else {
-            return t;
+        let Step::On(next) = next_record(rt, input, t)? else {
+            return Ok(t);
         };
         t = next;
         turns -= 1;
     }
-    t
+    Ok(t)
 }
 
-fn main() {
-    let fd = os::open_read(b"listings");
-    if fd < 0 {
-        os::fail(b"listings");
-        return;
-    }
-    let t = examine_all(fd);
-    libc::close(fd);
-    print_number(t.listings, b" listings, ");
-    print_number(t.accepted, b" accepted, ");
-    print_number(t.wrong, b" words of work wrong\n");
+fn main(rt: HostRuntime) -> Result<()> {
+    let mut file = File::open(&rt, "listings").context("listings")?;
+    let t = examine_all(&rt, &mut file)?;
+    print_number(&rt, t.listings, " listings, ")?;
+    print_number(&rt, t.accepted, " accepted, ")?;
+    print_number(&rt, t.wrong, " words of work wrong\n")?;
+    Ok(())
 }
