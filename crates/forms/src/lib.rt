@@ -6,7 +6,7 @@ ghost use Rattle.std.specs.Prelude.{◌≡◌, ℕ, ◌+◌, ◌^◌, ◌≤◌,
 ghost use Rattle.std.proofs.lemmas.List.Edits.{sets};
 ghost use Rattle.ast.specs.Tree.{unplaced};
 ghost use Rattle.ast.specs.Numbers.{types, locktime_ops};
-ghost use Rattle.text.specs.Text.{◌<$>◌, yield, word, index, choice, bit, signed, name, literal};
+ghost use Rattle.text.specs.Text.{◌<∘>◌, yield, word, index, choice, bit, signed, name, literal};
 ghost use Rattle.listing.specs.declared.Line.{Line};
 ghost use Rattle.listing.specs.declared.StatementLine.{StatementLine};
 ghost use Rattle.listing.specs.declared.ExpressionLine.{ExpressionLine};
@@ -139,7 +139,7 @@ pub fn store_contract(listing: &[u8], at: usize, work: &mut [u32], i: usize) -> 
 // D, B: items or statements.
 pub fn store_counted(listing: &[u8], at: usize, work: &mut [u32], i: usize, letter: u32) -> usize
     requires { HasRow work.old i }
-    ensures { (f : ℕ → Line) → ((v : ℕ) → row_with letter unplaced v 0 0 0 ≡ row_of (f v)) → Stores (form_at (f <$> word) listing.now at) i work.old work.new result }
+    ensures { (f : ℕ → Line) → ((v : ℕ) → row_with letter unplaced v 0 0 0 ≡ row_of (f v)) → Stores (form_at (f <∘> word) listing.now at) i work.old work.new result }
 {
     let WordRead::Got(count, n) = read_word(listing, at) else {
         return 0;
@@ -187,7 +187,7 @@ pub fn store_operator(
     count: u32,
 ) -> usize
     requires { HasRow work.old i }
-    ensures { (f : ℕ → Line) → ((v : ℕ) → v < count → row_with letter w v 0 0 0 ≡ row_of (f v)) → Stores (form_at (f <$> index count) listing.now at) i work.old work.new result }
+    ensures { (f : ℕ → Line) → ((v : ℕ) → v < count → row_with letter w v 0 0 0 ≡ row_of (f v)) → Stores (form_at (f <∘> index count) listing.now at) i work.old work.new result }
 {
     let WordRead::Got(v, n) = read_index(listing, at, count) else {
         return 0;
@@ -198,7 +198,7 @@ pub fn store_operator(
 // L, after its location: op, operand.
 pub fn store_wait(listing: &[u8], at: usize, work: &mut [u32], i: usize, w: Location) -> usize
     requires { HasRow work.old i }
-    ensures { Stores (form_at (Line.Statement <$> both (choice locktime_ops) signed (StatementLine.LocktimeStatement w)) listing.now at) i work.old work.new result }
+    ensures { Stores (form_at (Line.Statement <∘> both (choice locktime_ops) signed (StatementLine.LocktimeStatement w)) listing.now at) i work.old work.new result }
 {
     let WordRead::Got(op, n1) = read_index(listing, at, 3) else {
         return 0;
@@ -212,7 +212,7 @@ pub fn store_wait(listing: &[u8], at: usize, work: &mut [u32], i: usize, w: Loca
 // n, after its location: value.
 pub fn store_number(listing: &[u8], at: usize, work: &mut [u32], i: usize, w: Location) -> usize
     requires { HasRow work.old i }
-    ensures { Stores (form_at (Line.Expression <$> ExpressionLine.NumberLiteral w <$> signed) listing.now at) i work.old work.new result }
+    ensures { Stores (form_at (Line.Expression <∘> ExpressionLine.NumberLiteral w <∘> signed) listing.now at) i work.old work.new result }
 {
     let SignedRead::Got(v, n) = read_signed(listing, at) else {
         return 0;
@@ -223,7 +223,7 @@ pub fn store_number(listing: &[u8], at: usize, work: &mut [u32], i: usize, w: Lo
 // v, after its location: name.
 pub fn store_name(listing: &[u8], at: usize, work: &mut [u32], i: usize, w: Location) -> usize
     requires { (length listing.now < 2 ^ 32) × HasRow work.old i }
-    ensures { Stores (form_at (Line.Expression <$> ExpressionLine.Variable w <$> name) listing.now at) i work.old work.new result }
+    ensures { Stores (form_at (Line.Expression <∘> ExpressionLine.Variable w <∘> name) listing.now at) i work.old work.new result }
 {
     let PlaceRead::Got(x, n) = read_name(listing, at) else {
         return 0;
@@ -234,7 +234,7 @@ pub fn store_name(listing: &[u8], at: usize, work: &mut [u32], i: usize, w: Loca
 // s, after its location: bytes, mark.
 pub fn store_literal(listing: &[u8], at: usize, work: &mut [u32], i: usize, w: Location) -> usize
     requires { (length listing.now < 2 ^ 32) × HasRow work.old i }
-    ensures { Stores (form_at (Line.Expression <$> both literal bit (ExpressionLine.StringLiteral w)) listing.now at) i work.old work.new result }
+    ensures { Stores (form_at (Line.Expression <∘> both literal bit (ExpressionLine.StringLiteral w)) listing.now at) i work.old work.new result }
 {
     let PlaceRead::Got(x, n1) = read_literal(listing, at) else {
         return 0;
@@ -248,7 +248,7 @@ pub fn store_literal(listing: &[u8], at: usize, work: &mut [u32], i: usize, w: L
 // M, after its location: m, factors.
 pub fn store_multi(listing: &[u8], at: usize, work: &mut [u32], i: usize, w: Location) -> usize
     requires { HasRow work.old i }
-    ensures { Stores (form_at (Line.Factor <$> both word word (FactorLine.MultiSigFactor w)) listing.now at) i work.old work.new result }
+    ensures { Stores (form_at (Line.Factor <∘> both word word (FactorLine.MultiSigFactor w)) listing.now at) i work.old work.new result }
 {
     let WordRead::Got(m, n1) = read_word(listing, at) else {
         return 0;

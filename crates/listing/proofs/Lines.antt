@@ -10,7 +10,7 @@ use Rattle.listing.specs.Ast.{Location}
 use Rattle.listing.specs.declared.Line.{Line}
 use Rattle.listing.specs.declared.Lexed.TheVariants.{Good, Malformed, End}
 use Rattle.text.specs.declared.Skipped.{Skipped}
-use Rattle.text.specs.Text.{got, failed, Reader, read_at, ◌>>=◌, ◌>>◌, ◌<$>◌, yield, fail, newline, byte, location}
+use Rattle.text.specs.Text.{got, failed, Reader, read_at, ◌>>=◌, ◌>>◌, ◌<∘>◌, yield, fail, newline, byte, location}
 use Rattle.listing.specs.Forms.{with, with₂, Form, forms, fields_of, closed, line, next_of, next_line, lexed, line_at, form_at}
 use Rattle.text.proofs.Places.{bind-got, bind-failed}
 use Rattle.text.proofs.Told.{skip-to, skip-failed}
@@ -36,17 +36,17 @@ module _ (l : Line) (s : List ℕ) (n : ℕ) {x : Skipped} (h : x ≡ read_at (�
   line-goes-on e = sym (ap (λ g. lexed (next_of g)) (skip-failed newline (yield l) s n h e))
 
 -- what is read, changed
-pub map-got : {A B : Type 0} (f : A → B) (r : Reader A) (s : List ℕ) (n : ℕ) {a : A} {m : ℕ} → r n (drop n s) ≡ got a m (drop m s) → (f <$> r) n (drop n s) ≡ got (f a) m (drop m s)
-unfolding ◌<$>◌ yield
+pub map-got : {A B : Type 0} (f : A → B) (r : Reader A) (s : List ℕ) (n : ℕ) {a : A} {m : ℕ} → r n (drop n s) ≡ got a m (drop m s) → (f <∘> r) n (drop n s) ≡ got (f a) m (drop m s)
+unfolding ◌<∘>◌ yield
 map-got f r s n h = bind-got r (λ a. yield (f a)) s n h
 
-pub map-failed : {A B : Type 0} (f : A → B) (r : Reader A) (s : List ℕ) (n : ℕ) → r n (drop n s) ≡ failed → (f <$> r) n (drop n s) ≡ failed
-unfolding ◌<$>◌
+pub map-failed : {A B : Type 0} (f : A → B) (r : Reader A) (s : List ℕ) (n : ℕ) → r n (drop n s) ≡ failed → (f <∘> r) n (drop n s) ≡ failed
+unfolding ◌<∘>◌
 map-failed f r s n h = bind-failed r (λ a. yield (f a)) s n h
 
 -- w, and what follows it
-pub placed-got : {A L : Type 0} (f : A → L) (g : Location → Reader A) (s : List ℕ) (n : ℕ) {w : Location} {m : ℕ} → location n (drop n s) ≡ got w m (drop m s) → (f <$> (location >>= g)) n (drop n s) ≡ (f <$> g w) m (drop m s)
-unfolding ◌<$>◌ ◌>>=◌
+pub placed-got : {A L : Type 0} (f : A → L) (g : Location → Reader A) (s : List ℕ) (n : ℕ) {w : Location} {m : ℕ} → location n (drop n s) ≡ got w m (drop m s) → (f <∘> (location >>= g)) n (drop n s) ≡ (f <∘> g w) m (drop m s)
+unfolding ◌<∘>◌ ◌>>=◌
 placed-got f g s n h = rw (h, ◌>>=◌)
 
 -- where no w stands, none of the forms that have one does
@@ -54,11 +54,11 @@ module _ (s : List ℕ) (n : ℕ) (h : location n (drop n s) ≡ failed) where
   placed-failed : {A : Type 0} (g : Location → Reader A) → (location >>= g) n (drop n s) ≡ failed
   placed-failed g = bind-failed location g s n h
 
-  mapped-failed : {A : Type 0} (f : A → Line) (g : Location → Reader A) → (f <$> (location >>= g)) n (drop n s) ≡ failed
+  mapped-failed : {A : Type 0} (f : A → Line) (g : Location → Reader A) → (f <∘> (location >>= g)) n (drop n s) ≡ failed
   mapped-failed f g = map-failed f (location >>= g) s n (placed-failed g)
 
   pub unplaced-failed : (b : ℕ) → (b ≡ 84 → ⊥) → (b ≡ 68 → ⊥) → (b ≡ 66 → ⊥) → fields_of forms b n (drop n s) ≡ failed
-  unfolding with with₂ ◌<$>◌ fail
+  unfolding with with₂ ◌<∘>◌ fail
   unplaced-failed b t d k =
       fields-each
       (λ r. r n (drop n s) ≡ failed)

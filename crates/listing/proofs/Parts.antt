@@ -8,7 +8,7 @@ use mathlib.Core.Path.{◌≡◌, refl, sym, ◌∙◌, ap, subst}
 use lib.Dec.{ltb, eqb}
 use lib.ListN.{length, drop}
 use Rattle.text.specs.declared.Place.{Place}
-use Rattle.text.specs.Text.{Got, got, failed, Reader, ◌>>=◌, ◌>>◌, ◌<$>◌, yield, fail, guard, newline, comma, byte, word, choice, bit, location, is_name_byte, is_hex_digit, span, name, literal}
+use Rattle.text.specs.Text.{Got, got, failed, Reader, ◌>>=◌, ◌>>◌, ◌<∘>◌, yield, fail, guard, newline, comma, byte, word, choice, bit, location, is_name_byte, is_hex_digit, span, name, literal}
 use Rattle.text.proofs.Places.{Keeps, drop-tail, map-keeps, byte-keeps, word_keeps, choice-keeps, bit-keeps, signed-keeps, location-keeps, span-keeps, name-keeps, literal-keeps, span-ends}
 use Rattle.listing.specs.Ast.{Location, targets, types}
 use Rattle.listing.specs.declared.Line.{Line}
@@ -93,27 +93,27 @@ named : (l : Line) (x : Place) (m : ℕ) → part_of l ≡ some x → Ends m x �
 named l x m h i y e = let q : ◌≡◌ {A = Option Place} (some x) (some y) = sym h ∙ e in let z : x ≡ y = cc in subst (Ends m) z i
 
 -- lines that name no part
-map-unnamed : {A : Type 0} (f : A → Line) (r : Reader A) → Keeps r → ((a : A) → part_of (f a) ≡ none) → (n : ℕ) → Gives Named (f <$> r) n
-unfolding ◌<$>◌
+map-unnamed : {A : Type 0} (f : A → Line) (r : Reader A) → Keeps r → ((a : A) → part_of (f a) ≡ none) → (n : ℕ) → Gives Named (f <∘> r) n
+unfolding ◌<∘>◌
 map-unnamed f r keeps h n = bind-gives (λ m a. n ≤ m) Named r (λ a. yield (f a)) n keeps (keeps_on r keeps n) (λ a k i. yield-gives Named k (f a) (unnamed (f a) k (h a)))
 
 -- an expression's line, from what is known of its form
-expression-gives : (P : ℕ → ExpressionLine → Type 0) (r : Reader ExpressionLine) (n : ℕ) → Keeps r → Gives P r n → ((m : ℕ) (l : ExpressionLine) → P m l → Named m (Line.Expression l)) → Gives Named (Line.Expression <$> r) n
-unfolding ◌<$>◌
+expression-gives : (P : ℕ → ExpressionLine → Type 0) (r : Reader ExpressionLine) (n : ℕ) → Keeps r → Gives P r n → ((m : ℕ) (l : ExpressionLine) → P m l → Named m (Line.Expression l)) → Gives Named (Line.Expression <∘> r) n
+unfolding ◌<∘>◌
 expression-gives P r n keeps g h = bind-gives P Named r (λ a. yield (Line.Expression a)) n keeps g (λ a k i. yield-gives Named k (Line.Expression a) (h k a i))
 
 abbrev Plain : ℕ → ExpressionLine → Type 0
 Plain m l = part_of (Line.Expression l) ≡ none
 
-with-plain : {A : Type 0} (r : Reader A) (f : Location → A → ExpressionLine) → Keeps r → ((w : Location) (a : A) → part_of (Line.Expression (f w a)) ≡ none) → (n : ℕ) → Gives Named (Line.Expression <$> with r f) n
+with-plain : {A : Type 0} (r : Reader A) (f : Location → A → ExpressionLine) → Keeps r → ((w : Location) (a : A) → part_of (Line.Expression (f w a)) ≡ none) → (n : ℕ) → Gives Named (Line.Expression <∘> with r f) n
 unfolding with
 with-plain r f keeps h n =
     expression-gives Plain (with r f) n (with-keeps r f keeps) (bind-gives (λ m a. n ≤ m) Plain location (λ w. r >>= λ a. yield (f w a)) n location-keeps (keeps_on location location-keeps n) (λ w k i. bind-gives (λ m a. k ≤ m) Plain r (λ a. yield (f w a)) k keeps (keeps_on r keeps k) (λ a j g. yield-gives Plain j (f w a) (h w a)))) (λ m l i. unnamed (Line.Expression l) m i)
 
-bare-plain : (f : Location → ExpressionLine) → ((w : Location) → part_of (Line.Expression (f w)) ≡ none) → (n : ℕ) → Gives Named (Line.Expression <$> f <$> location) n
-unfolding ◌<$>◌
+bare-plain : (f : Location → ExpressionLine) → ((w : Location) → part_of (Line.Expression (f w)) ≡ none) → (n : ℕ) → Gives Named (Line.Expression <∘> f <∘> location) n
+unfolding ◌<∘>◌
 bare-plain f h n =
-    expression-gives Plain (f <$> location) n (map-keeps f location location-keeps) (bind-gives (λ m a. n ≤ m) Plain location (λ w. yield (f w)) n location-keeps (keeps_on location location-keeps n) (λ w k i. yield-gives Plain k (f w) (h w))) (λ m l i. unnamed (Line.Expression l) m i)
+    expression-gives Plain (f <∘> location) n (map-keeps f location location-keeps) (bind-gives (λ m a. n ≤ m) Plain location (λ w. yield (f w)) n location-keeps (keeps_on location location-keeps n) (λ w k i. yield-gives Plain k (f w) (h w))) (λ m l i. unnamed (Line.Expression l) m i)
 
 contract-gives : (n : ℕ) → Gives Named contract n
 unfolding contract part_of
@@ -124,12 +124,12 @@ unfolding with₂ part_of
 param-gives n =
     bind-gives (λ m a. n ≤ m) Named location (λ w. choice types >>= λ t. name >>= λ x. yield (Line.StackParam w t x)) n location-keeps (keeps_on location location-keeps n) (λ w k i. bind-gives (λ m a. k ≤ m) Named (choice types) (λ t. name >>= λ x. yield (Line.StackParam w t x)) k (choice-keeps types) (keeps_on (choice types) (choice-keeps types) k) (λ t j g. bind-gives Ends Named name (λ x. yield (Line.StackParam w t x)) j name-keeps (name-gives j) (λ x h q. yield-gives Named h (Line.StackParam w t x) (named (Line.StackParam w t x) x h refl q))))
 
-variable-gives : (n : ℕ) → Gives Named (Line.Expression <$> with name ExpressionLine.Variable) n
+variable-gives : (n : ℕ) → Gives Named (Line.Expression <∘> with name ExpressionLine.Variable) n
 unfolding with part_of
 variable-gives n =
     expression-gives (λ m l. Named m (Line.Expression l)) (with name ExpressionLine.Variable) n (with-keeps name ExpressionLine.Variable name-keeps) (bind-gives (λ m a. n ≤ m) (λ m l. Named m (Line.Expression l)) location (λ w. name >>= λ x. yield (ExpressionLine.Variable w x)) n location-keeps (keeps_on location location-keeps n) (λ w k i. bind-gives Ends (λ m l. Named m (Line.Expression l)) name (λ x. yield (ExpressionLine.Variable w x)) k name-keeps (name-gives k) (λ x j q. yield-gives (λ m l. Named m (Line.Expression l)) j (ExpressionLine.Variable w x) (named (Line.Expression (ExpressionLine.Variable w x)) x j refl q)))) (λ m l i. i)
 
-string-gives : (n : ℕ) → Gives Named (Line.Expression <$> with₂ literal bit ExpressionLine.StringLiteral) n
+string-gives : (n : ℕ) → Gives Named (Line.Expression <∘> with₂ literal bit ExpressionLine.StringLiteral) n
 unfolding with₂ part_of
 string-gives n =
     expression-gives (λ m l. Named m (Line.Expression l)) (with₂ literal bit ExpressionLine.StringLiteral) n (with₂-keeps literal bit ExpressionLine.StringLiteral literal-keeps bit-keeps) (bind-gives (λ m a. n ≤ m) (λ m l. Named m (Line.Expression l)) location (λ w. literal >>= λ x. bit >>= λ b. yield (ExpressionLine.StringLiteral w x b)) n location-keeps (keeps_on location location-keeps n) (λ w k i. bind-gives Ends (λ m l. Named m (Line.Expression l)) literal (λ x. bit >>= λ b. yield (ExpressionLine.StringLiteral w x b)) k literal-keeps (literal-gives k) (λ x j q. bind-gives (λ m a. j ≤ m) (λ m l. Named m (Line.Expression l)) bit (λ b. yield (ExpressionLine.StringLiteral w x b)) j bit-keeps (keeps_on bit bit-keeps j) (λ b h g. yield-gives (λ m l. Named m (Line.Expression l)) h (ExpressionLine.StringLiteral w x b) (named (Line.Expression (ExpressionLine.StringLiteral w x b)) x h refl (omega arith)))))) (λ m l i. i)

@@ -8,7 +8,7 @@ use mathlib.Core.Path.{◌≡◌, refl, sym, ◌∙◌, ap, subst}
 use lib.Dec.{leb, ltb, eqb}
 use lib.ListN.{length, drop, get_elem?}
 use Rattle.text.specs.declared.Place.{Place}
-use Rattle.text.specs.Text.{Got, got, failed, Reader, ◌>>=◌, ◌>>◌, ◌<$>◌, yield, fail, guard, comma, minus, byte, is_digit, digits, decimal, capped, up_to, word, index, choice, bit, after_minus, unsigned, sign, signed, location, run, span, is_name_byte, is_hex_digit, name, literal}
+use Rattle.text.specs.Text.{Got, got, failed, Reader, ◌>>=◌, ◌>>◌, ◌<∘>◌, yield, fail, guard, comma, minus, byte, is_digit, digits, decimal, capped, up_to, word, index, choice, bit, after_minus, unsigned, sign, signed, location, run, span, is_name_byte, is_hex_digit, name, literal}
 
 -- from position n to position m of s, where t is what is left
 pub record Kept (s : List ℕ) (n m : ℕ) (t : List ℕ) : Type 0 where
@@ -67,8 +67,8 @@ pub yield-keeps : {A : Type 0} (a : A) → Keeps (yield a)
 unfolding yield
 yield-keeps a s n u e b m t p = stay e p
 
-pub map-keeps : {A B : Type 0} (f : A → B) (r : Reader A) → Keeps r → Keeps (f <$> r)
-unfolding ◌<$>◌
+pub map-keeps : {A B : Type 0} (f : A → B) (r : Reader A) → Keeps r → Keeps (f <∘> r)
+unfolding ◌<∘>◌
 map-keeps f r h = bind-keeps r (λ a. yield (f a)) h (λ a. yield-keeps (f a))
 
 pub fail-keeps : {A : Type 0} → Keeps (fail {A = A})

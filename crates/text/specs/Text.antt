@@ -15,7 +15,7 @@ abbrev pub Reader : Type 0 → Type 0
 Reader A = ℕ → List ℕ → Got A
 
 infixl 20 ◌>>=◌ ◌>>◌
-infixr 30 ◌<$>◌
+infixr 30 ◌<∘>◌
 -- as the code has it: a value and the position after it, or nothing
 unfoldable pub given : {A R : Type 0} → (A → ℕ → R) → R → Got A → R
 given good bad (got a n s) = good a n
@@ -38,8 +38,8 @@ unfoldable pub yield : {A : Type 0} → A → Reader A
 yield a n s = got a n s
 
 -- a value, changed by f
-unfoldable pub ◌<$>◌ : {A B : Type 0} → (A → B) → Reader A → Reader B
-◌<$>◌ f r = r >>= λ a. yield (f a)
+unfoldable pub ◌<∘>◌ : {A B : Type 0} → (A → B) → Reader A → Reader B
+◌<∘>◌ f r = r >>= λ a. yield (f a)
 
 unfoldable pub fail : {A : Type 0} → Reader A
 fail n s = failed

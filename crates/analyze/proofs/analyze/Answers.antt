@@ -1,10 +1,8 @@
-use mathlib.Core.List.{[]}
 use mathlib.Core.Path.{ap, ◌∙◌}
 use lib.ListN.{length, get_or}
 use Rattle.tables.proofs.State.{turned-says, turned-branch}
 use Rattle.tables.proofs.Counting.{block-stands}
 use Rattle.analyze.proofs.Analyzing.{stops-at-shape, stops-at-build, first-in-use, stops-at-walk, ends, given-at}
-use borrow.Author.Rules.{rules}
 use Rattle.analyze.proofs.analyze.Goals as goal
 
 pub check_shape-shape-requires : goal.check_shape-shape-requires

@@ -1,5 +1,4 @@
 use Rattle.analyze.proofs.Analyzing.{ends-fault, ends-ok}
-use borrow.Author.Rules.{rules}
 use Rattle.analyze.proofs.finish.Goals as goal
 
 pub returns-in-Err : goal.returns-in-Err

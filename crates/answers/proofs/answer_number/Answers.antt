@@ -1,7 +1,6 @@
 use mathlib.Core.Path.{ap, sym, ◌∙◌}
 use lib.ListN.{get_or}
 use Rattle.answers.specs.Numbers.{numbers_of}
-use borrow.Author.Rules.{rules}
 use Rattle.answers.proofs.answer_number.Goals as goal
 
 pub returns-in-Accepted : goal.returns-in-Accepted

@@ -1,6 +1,5 @@
 use mathlib.Core.Path.{ap, sym, ◌∙◌}
 use Rattle.answers.specs.Numbers.{numbers_of}
-use borrow.Author.Rules.{rules}
 use Rattle.answers.proofs.put_answer.Goals as goal
 
 pub returns-in-Accepted : goal.returns-in-Accepted

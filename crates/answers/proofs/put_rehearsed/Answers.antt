@@ -1,4 +1,3 @@
-use borrow.Author.Rules.{rules}
 use native.Mathlib.Omega.{arith}
 use Rattle.answers.proofs.Rehearsals.{puts-due, puts-ended, puts-refusal}
 use Rattle.answers.proofs.put_rehearsed.Goals as goal

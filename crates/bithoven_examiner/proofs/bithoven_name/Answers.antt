@@ -1,6 +1,5 @@
 use mathlib.Core.Path.{refl}
 use Rattle.bithoven_examiner.proofs.Laws.{name-promised}
-use borrow.Author.Rules.{rules}
 use Rattle.bithoven_examiner.proofs.bithoven_name.Goals as goal
 
 pub returns : goal.returns

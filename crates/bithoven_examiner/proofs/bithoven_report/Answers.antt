@@ -1,6 +1,5 @@
 use mathlib.Core.Path.{refl}
 use Rattle.bithoven_examiner.proofs.Laws.{report-promised}
-use borrow.Author.Rules.{rules}
 use Rattle.bithoven_examiner.proofs.bithoven_report.Goals as goal
 
 pub returns : goal.returns

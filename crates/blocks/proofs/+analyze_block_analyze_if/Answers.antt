@@ -1,11 +1,9 @@
-use Prim.Native.Nat.{ℕ, suc, ◌-◌, ◌%◌, ◌≤◌, ◌<◌}
+use Prim.Native.Nat.{ℕ, suc, ◌-◌, ◌%◌}
 use native.Mathlib.Nat.{sub-zero}
 use native.Mathlib.Numerals.{add-one}
 use native.Mathlib.Omega.{arith}
 use mathlib.Core.Bool.{Bool, true}
-use mathlib.Core.List.{[]}
 use mathlib.Core.Path.{◌≡◌, refl, sym, ap, subst, ◌∙◌}
-use borrow.Author.Rules.{rules}
 use borrow.Author.Tests.{not-true, not-false}
 use lib.ListN.{length}
 use Rattle.ast.specs.Tree.{Statement, Block}
@@ -21,9 +19,9 @@ use Rattle.tables.specs.Held.{statement_held, walk_held}
 use Rattle.paths.specs.Path.{table_of}
 use Rattle.statements.specs.declared.Step.{Step}
 use Rattle.statements.specs.Steps.{tables_with, InUse, OnPath, Told, examined, row_after}
-use Rattle.tables.specs.State.{Ready, Moved, next_in, branch_in}
+use Rattle.tables.specs.State.{Moved, next_in, branch_in}
 use Rattle.tables.proofs.State.{moved-refused, turned-says, turned-branch}
-use Rattle.blocks.proofs.Blocks.{moved_as, moved-stop, moved_on, moved-end, statement-below, expression-below, Going, first, head-within, going-err, going_on, going-last, going-as, going_end, IfParts, if-parts, if-holds, Conditioned, conditioned, block-stops, if-only, else-parts, ElseLeft}
+use Rattle.blocks.proofs.Blocks.{moved_as, moved-stop, moved_on, moved-end, statement-below, expression-below, first, head-within, going-err, going_on, going-last, going-as, going_end, IfParts, if-parts, if-holds, Conditioned, conditioned, block-stops, if-only, else-parts, ElseLeft}
 use Rattle.statements.proofs.Walking.{at_next, read_here, in_use, tables-same, crossed-within}
 use Rattle.blocks.proofs.Crossing.{put_back, put-nowhere, else-stops, else-passes}
 use Rattle.blocks.proofs.+analyze_block_analyze_if.Goals as goal

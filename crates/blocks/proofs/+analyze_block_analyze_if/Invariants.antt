@@ -1,31 +1,13 @@
-use Prim.Native.Nat.{ℕ, suc, ◌-◌, ◌%◌, ◌≤◌, ◌<◌}
-use native.Mathlib.Nat.{sub-zero}
-use native.Mathlib.Numerals.{add-one}
-use native.Mathlib.Omega.{arith}
-use mathlib.Core.Bool.{Bool}
-use mathlib.Core.List.{[]}
-use mathlib.Core.Path.{◌≡◌, refl, sym, ap, subst, ◌∙◌}
-use borrow.Author.Rules.{rules}
-use borrow.Author.Tests.{not-true, not-false}
+use Prim.Native.Nat.{ℕ, ◌-◌, ◌≤◌, ◌<◌}
+use mathlib.Core.Path.{◌≡◌}
 use lib.ListN.{length}
-use Rattle.ast.specs.Tree.{Statement, Block}
-use Rattle.listing.specs.declared.Line.{Line}
-use Rattle.listing.specs.declared.StatementLine.{StatementLine}
+use Rattle.ast.specs.Tree.{Block}
 use Rattle.rows.specs.Rows.{line_in}
-use Rattle.reader.specs.Spells.{SpellsStatement, SpellsBlock}
-use Rattle.reader.proofs.Agree.{expression-on, statement-on, block_on}
-use Rattle.nodes.specs.Stands.{StatementAt, BlockAt}
-use Rattle.nodes.proofs.Laws.{below, statement-is, block-is, statement-holds, block-holds}
-use Rattle.rules.specs.Result.{ok}
-use Rattle.tables.specs.Held.{statement_held, walk_held}
-use Rattle.paths.specs.Path.{table_of}
-use Rattle.statements.specs.declared.Step.{Step}
-use Rattle.statements.specs.Steps.{tables_with, InUse, OnPath, Told, examined, row_after}
-use Rattle.tables.specs.State.{Ready, Moved, next_in, branch_in}
-use Rattle.tables.proofs.State.{moved-refused, turned-says, turned-branch}
-use Rattle.blocks.proofs.Blocks.{moved_as, moved-stop, moved_on, moved-end, statement-below, expression-below, Going, first, head-within, going-err, going_on, going-last, going-as, going_end, IfParts, if-parts, if-holds, Conditioned, conditioned, block-stops, if-only, else-parts, ElseLeft}
-use Rattle.statements.proofs.Walking.{at_next, read_here, in_use, tables-same, crossed-within}
-use Rattle.blocks.proofs.Crossing.{put_back, put-nowhere, else-stops, else-passes}
+use Rattle.reader.specs.Spells.{SpellsBlock}
+use Rattle.tables.specs.Held.{walk_held}
+use Rattle.statements.specs.Steps.{tables_with, InUse}
+use Rattle.tables.specs.State.{Ready, branch_in}
+use Rattle.blocks.proofs.Blocks.{Going}
 use Rattle.blocks.proofs.+analyze_block_analyze_if.Given as goal
 
 abbrev pub decreases-analyze_block : goal.decreases-analyze_block

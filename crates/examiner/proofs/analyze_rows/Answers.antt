@@ -1,5 +1,4 @@
 use mathlib.Core.Path.{◌∙◌}
-use borrow.Author.Rules.{rules}
 use Rattle.rules.specs.Analyze.{analyze}
 use Rattle.examiner.proofs.Checking.{numbers-say}
 use Rattle.examiner.proofs.analyze_rows.Goals as goal

@@ -1,5 +1,4 @@
 use Rattle.examiner.proofs.Checking.{refuses, may-check, answers}
-use borrow.Author.Rules.{rules}
 use Rattle.examiner.proofs.check.Goals as goal
 
 pub check_rows-requires : goal.check_rows-requires

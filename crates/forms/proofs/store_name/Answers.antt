@@ -1,6 +1,6 @@
 use native.Mathlib.Omega.{arith}
 use Rattle.text.specs.declared.PlaceRead.{PlaceRead}
-use Rattle.text.specs.Text.{◌<$>◌, name}
+use Rattle.text.specs.Text.{◌<∘>◌, name}
 use Rattle.text.proofs.Places.{name-keeps}
 use Rattle.text.proofs.Told.{told-got, told-failed, place-tells}
 use Rattle.listing.specs.declared.Line.{Line}
@@ -15,7 +15,7 @@ pub returns-in_default : goal.returns-in_default
 returns-in_default c =
     let a = c.args in
     let s = a.listing.now in
-    stores-failed (Line.Expression <$> ExpressionLine.Variable a.w <$> name) s a.at a.i a.work.now (map-failed Line.Expression _ s a.at (map-failed (ExpressionLine.Variable a.w) name s a.at (told-failed PlaceRead.Got PlaceRead.Failed place-tells name s a.at c.read_name.ensures c.in_default.is)))
+    stores-failed (Line.Expression <∘> ExpressionLine.Variable a.w <∘> name) s a.at a.i a.work.now (map-failed Line.Expression _ s a.at (map-failed (ExpressionLine.Variable a.w) name s a.at (told-failed PlaceRead.Got PlaceRead.Failed place-tells name s a.at c.read_name.ensures c.in_default.is)))
 
 pub part_row-requires : goal.part_row-requires
 part_row-requires c =
@@ -31,4 +31,4 @@ returns c =
     let a = c.args in
     let s = a.listing.now in
     let x = told-got PlaceRead.Got PlaceRead.Failed place-tells name name-keeps s a.at c.read_name.ensures c.in-Got.is in
-    stores-got (Line.Expression <$> ExpressionLine.Variable a.w <$> name) s a.at (map-got Line.Expression _ s a.at (map-got (ExpressionLine.Variable a.w) name s a.at x)) (c.end_row.ensures _ c.part_row.ensures)
+    stores-got (Line.Expression <∘> ExpressionLine.Variable a.w <∘> name) s a.at (map-got Line.Expression _ s a.at (map-got (ExpressionLine.Variable a.w) name s a.at x)) (c.end_row.ensures _ c.part_row.ensures)

@@ -1,6 +1,5 @@
 use mathlib.Core.Path.{sym, ap, ◌∙◌}
 use Rattle.lent_path.specs.Lent.{answered_read}
-use borrow.Author.Rules.{rules}
 use Rattle.lent_path.proofs.bithoven_rows.Goals as goal
 
 pub returns-in-Rows : goal.returns-in-Rows

@@ -1,5 +1,4 @@
 use mathlib.Core.Path.{sym}
-use borrow.Author.Rules.{rules}
 use Rattle.lent_path.proofs.Laws.{if-out, if-other, if_here}
 use Rattle.lent_path.proofs.if_at.Goals as goal
 

@@ -1,5 +1,4 @@
 use mathlib.Core.Path.{sym, ap, ◌∙◌}
-use borrow.Author.Rules.{rules}
 use Rattle.lent_path.specs.Rows.{is_inside}
 use Rattle.lent_path.proofs.Laws.{item_out, item-other, item-here}
 use Rattle.lent_path.proofs.is_item.Goals as goal

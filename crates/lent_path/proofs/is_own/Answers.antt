@@ -2,7 +2,6 @@ use native.Mathlib.Omega.{arith}
 use mathlib.Core.Path.{sym, ◌∙◌}
 use borrow.Author.Tests.{not-true, not-false}
 use Rattle.lent_path.proofs.Laws.{own-gap, own-all, own-shift}
-use borrow.Author.Rules.{rules}
 use Rattle.lent_path.proofs.is_own.Goals as goal
 
 pub returns-then-not-is_top_run : goal.returns-then-not-is_top_run

@@ -1,11 +1,7 @@
 use Prim.Native.Nat.{◌-◌, ◌≤◌}
-use native.Mathlib.Omega.{arith}
-use mathlib.Core.Path.{◌≡◌, refl, sym, ◌∙◌}
-use borrow.Author.Rules.{rules}
-use borrow.Author.Tests.{not-true, not-false}
+use mathlib.Core.Path.{◌≡◌}
 use Rattle.paths.specs.Path.{rows_of}
 use Rattle.lent_path.specs.Rows.{are_items}
-use Rattle.lent_path.proofs.Laws.{path-many, path-strays, path-rows, items-start, items-step, items-done, place-row}
 use Rattle.lent_path.proofs.is_path.Given as goal
 
 abbrev pub invariant-loop-k : goal.invariant-loop-k

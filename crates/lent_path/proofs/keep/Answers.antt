@@ -1,6 +1,5 @@
 use mathlib.Core.Path.{sym, ap, ◌∙◌}
 use Rattle.lent_path.specs.Lent.{kept_with, kept}
-use borrow.Author.Rules.{rules}
 use Rattle.lent_path.proofs.keep.Goals as goal
 
 pub returns-in-Pass : goal.returns-in-Pass

@@ -1,6 +1,5 @@
 use mathlib.Core.Path.{ap}
 use Rattle.lent_path.specs.declared.Answered.{Answered}
-use borrow.Author.Rules.{rules}
 use Rattle.lent_path.proofs.refuse.Goals as goal
 
 pub returns : goal.returns

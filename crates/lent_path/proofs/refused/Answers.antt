@@ -1,5 +1,4 @@
 use Rattle.lent_path.specs.Lent.{answered}
-use borrow.Author.Rules.{rules}
 use Rattle.lent_path.proofs.refused.Goals as goal
 
 pub returns : goal.returns

@@ -2,7 +2,6 @@ use mathlib.Core.Path.{sym, ◌∙◌}
 use borrow.Author.Tests.{not-true, not-false}
 use Rattle.paths.proofs.Walks.{walk_is}
 use Rattle.lent_path.proofs.Laws.{variable-sound, path-sound, path-full, take-unfit, take-missing, take-here, kept-err, kept-walk}
-use borrow.Author.Rules.{rules}
 use Rattle.lent_path.proofs.take_at.Goals as goal
 
 pub returns-then-not-is_path : goal.returns-then-not-is_path

@@ -2,7 +2,6 @@ use mathlib.Core.Path.{sym, ◌∙◌}
 use borrow.Author.Tests.{not-true, not-false}
 use Rattle.paths.proofs.Walks.{walk_is}
 use Rattle.lent_path.proofs.Laws.{path-sound, path-full, transfer-first, transfer-second, transfer-missing, transfer-here, kept-err, kept-walk}
-use borrow.Author.Rules.{rules}
 use Rattle.lent_path.proofs.transfer_at.Goals as goal
 
 pub returns-then-not-is_path : goal.returns-then-not-is_path

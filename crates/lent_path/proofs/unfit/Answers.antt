@@ -3,7 +3,6 @@ use Rattle.ast.specs.declared.ErrorKind.TheVariants.{UnexpectedLine}
 use Rattle.ast.specs.Tree.{fault}
 use Rattle.rules.specs.Result.{err}
 use Rattle.lent_path.specs.Lent.{answered}
-use borrow.Author.Rules.{rules}
 use Rattle.lent_path.proofs.unfit.Goals as goal
 
 pub returns : goal.returns

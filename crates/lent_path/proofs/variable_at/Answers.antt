@@ -1,5 +1,4 @@
 use mathlib.Core.Path.{sym, ap, ◌∙◌}
-use borrow.Author.Rules.{rules}
 use Rattle.lent_path.specs.Rows.{is_inside}
 use Rattle.lent_path.proofs.Laws.{variable-far, variable-out, variable-other, variable-here, named-inside, named-outside}
 use Rattle.lent_path.proofs.variable_at.Goals as goal

@@ -1,10 +1,9 @@
-use Prim.Native.Nat.{◌+◌, ◌-◌, ◌≤◌, ◌<◌}
+use Prim.Native.Nat.{◌+◌, ◌-◌, ◌<◌}
 use native.Mathlib.Omega.{arith}
 use mathlib.Core.Path.{sym, ◌∙◌}
-use borrow.Author.Rules.{rules}
 use Rattle.reader.proofs.Items.{items-end}
 use Rattle.names.proofs.Laws.{items-named, name-inside}
-use Rattle.paths.proofs.Build.{Building, build-start, build-done, build-twice, build-more, at_count}
+use Rattle.paths.proofs.Build.{build-start, build-done, build-twice, build-more, at_count}
 use Rattle.paths.proofs.build_symbol_table.Goals.{In-Missing}
 use Rattle.paths.proofs.build_symbol_table.Goals as goal
 

@@ -1,10 +1,5 @@
-use Prim.Native.Nat.{◌+◌, ◌-◌, ◌≤◌, ◌<◌}
-use native.Mathlib.Omega.{arith}
-use mathlib.Core.Path.{sym, ◌∙◌}
-use borrow.Author.Rules.{rules}
-use Rattle.reader.proofs.Items.{items-end}
-use Rattle.names.proofs.Laws.{items-named, name-inside}
-use Rattle.paths.proofs.Build.{Building, build-start, build-done, build-twice, build-more, at_count}
+use Prim.Native.Nat.{◌-◌, ◌≤◌}
+use Rattle.paths.proofs.Build.{Building}
 use Rattle.paths.proofs.build_symbol_table.Given as goal
 
 abbrev pub invariant-loop-k : goal.invariant-loop-k

@@ -1,12 +1,11 @@
-use Prim.Native.Nat.{ℕ, ◌-◌, ◌≤◌}
+use Prim.Native.Nat.{◌-◌}
 use native.Mathlib.Omega.{arith}
-use mathlib.Core.List.{List}
 use mathlib.Core.Path.{◌≡◌, refl, sym, ◌∙◌, subst}
 use borrow.Author.Tests.{not-true, not-false}
 use lib.ListN.{drop}
 use Rattle.ast.specs.declared.Checked.TheVariants.{Ok}
 use Rattle.rules.specs.Unused.{unused}
-use Rattle.paths.specs.Path.{table_of, WellFormed}
+use Rattle.paths.specs.Path.{table_of}
 use Rattle.paths.proofs.Tables.{row_named}
 use Rattle.paths.proofs.Unused.{unused-none, unused-taken, unused-free}
 use Rattle.paths.proofs.check_unused_variable.Goals as goal

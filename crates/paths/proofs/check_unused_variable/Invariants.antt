@@ -1,14 +1,10 @@
 use Prim.Native.Nat.{ℕ, ◌-◌, ◌≤◌}
-use native.Mathlib.Omega.{arith}
 use mathlib.Core.List.{List}
-use mathlib.Core.Path.{◌≡◌, refl, sym, ◌∙◌, subst}
-use borrow.Author.Tests.{not-true, not-false}
+use mathlib.Core.Path.{◌≡◌}
 use lib.ListN.{drop}
 use Rattle.ast.specs.declared.Checked.TheVariants.{Ok}
 use Rattle.rules.specs.Unused.{unused}
 use Rattle.paths.specs.Path.{table_of, WellFormed}
-use Rattle.paths.proofs.Tables.{row_named}
-use Rattle.paths.proofs.Unused.{unused-none, unused-taken, unused-free}
 use Rattle.paths.proofs.check_unused_variable.Given as goal
 
 abbrev pub invariant-loop-k : goal.invariant-loop-k

@@ -1,8 +1,8 @@
-use Prim.Native.Nat.{◌-◌, ◌≤◌}
+use Prim.Native.Nat.{◌-◌}
 use native.Mathlib.Omega.{arith}
 use mathlib.Core.Path.{◌≡◌, refl, sym, ◌∙◌}
 use Rattle.names.proofs.Laws.{name-inside}
-use Rattle.paths.proofs.Tables.{row_named, Left, find-done, find_none, find-here, find-next}
+use Rattle.paths.proofs.Tables.{row_named, find-done, find_none, find-here, find-next}
 use Rattle.paths.proofs.find_place.Goals as goal
 
 pub loop-k-init : goal.loop-k-init

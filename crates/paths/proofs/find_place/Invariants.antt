@@ -1,8 +1,6 @@
 use Prim.Native.Nat.{◌-◌, ◌≤◌}
-use native.Mathlib.Omega.{arith}
-use mathlib.Core.Path.{◌≡◌, refl, sym, ◌∙◌}
-use Rattle.names.proofs.Laws.{name-inside}
-use Rattle.paths.proofs.Tables.{row_named, Left, find-done, find_none, find-here, find-next}
+use mathlib.Core.Path.{◌≡◌}
+use Rattle.paths.proofs.Tables.{Left}
 use Rattle.paths.proofs.find_place.Given as goal
 
 abbrev pub invariant-loop-k : goal.invariant-loop-k

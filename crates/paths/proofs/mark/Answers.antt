@@ -1,4 +1,3 @@
-use borrow.Author.Rules.{rules}
 use Rattle.paths.proofs.mark.Goals as goal
 
 pub returns : goal.returns

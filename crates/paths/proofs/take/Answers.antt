@@ -11,7 +11,6 @@ use native.Mathlib.Numerals.{add-one}
 use mathlib.Core.Path.{◌≡◌, sym, ap, ◌∙◌}
 use Rattle.paths.proofs.Tables.{found_below, take-unknown, take-taken, take-early, take_next, marked-items, marked-sound}
 use Rattle.paths.proofs.Walks.{walk-fault, walk-pass}
-use borrow.Author.Rules.{rules}
 use Rattle.paths.proofs.take.Goals.{In-At}
 use Rattle.paths.proofs.take.Goals as goal
 

@@ -1,4 +1,3 @@
-use borrow.Author.Rules.{rules}
 use Rattle.rehearsal.specs.Rehearse.{laid}
 use Rattle.rehearsal.specs.Acts.{act}
 use Rattle.rehearsal.proofs.lay.Goals as goal

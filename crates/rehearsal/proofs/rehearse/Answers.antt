@@ -1,4 +1,3 @@
-use borrow.Author.Rules.{rules}
 use Rattle.examiner.proofs.Checking.{may-check}
 use Rattle.rehearsal.proofs.Rehearsing.{refuses, turns}
 use Rattle.rehearsal.proofs.rehearse.Goals as goal

@@ -1,4 +1,3 @@
-use borrow.Author.Rules.{rules}
 use Rattle.rehearsal.specs.Rehearse.{taken_back}
 use Rattle.rehearsal.specs.Acts.{act}
 use Rattle.rehearsal.proofs.take_back.Goals as goal

@@ -6,7 +6,6 @@ use Rattle.reporting.specs.Waits.{analysis_in}
 use Rattle.reporting.proofs.Loops.{tables-length}
 use Rattle.reporting.proofs.WaitLines.{rows_short}
 use Rattle.reporting.proofs.Measured.{untouched, surely-fits, measured}
-use borrow.Author.Rules.{rules}
 use Rattle.reporting.proofs.has_room.Goals as goal
 
 pub put_head-head-requires : goal.put_head-head-requires

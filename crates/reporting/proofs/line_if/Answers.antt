@@ -1,4 +1,3 @@
-use Prim.Native.Nat.{ℕ}
 use Rattle.reporting.proofs.Items.{line-none, line-some}
 use Rattle.reporting.proofs.line_if.Goals as goal
 

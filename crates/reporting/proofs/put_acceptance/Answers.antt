@@ -8,7 +8,6 @@ use Rattle.reporting.specs.Bounds.{head_line}
 use Rattle.reporting.specs.Waits.{waits_between, analysis_in}
 use Rattle.reporting.proofs.Chains.{wrote-under, paths_and_waits, acceptance-run}
 use Rattle.reporting.proofs.Loops.{tables-length}
-use borrow.Author.Rules.{rules}
 use Rattle.reporting.proofs.put_acceptance.Goals.{After-put_head-arg-1, After-put_paths-arg-1}
 use Rattle.reporting.proofs.put_acceptance.Goals as goal
 

@@ -1,10 +1,9 @@
 use native.Mathlib.Omega.{arith}
-use mathlib.Core.List.{[], ◌∷◌, ◌++◌}
+use mathlib.Core.List.{◌∷◌, ◌++◌}
 use Rattle.output.specs.Decimal.{decimal}
 use Rattle.output.specs.Put.{Room}
 use Rattle.output.proofs.Laws.{room-first, room_next, wrote-next}
 use Rattle.reporting.proofs.Chains.{wrote-under, head-run, head-room}
-use borrow.Author.Rules.{rules}
 use Rattle.reporting.proofs.put_head.Goals.{After-put_bytes-arg-2-1, After-put_decimal-arg-1}
 use Rattle.reporting.proofs.put_head.Goals as goal
 

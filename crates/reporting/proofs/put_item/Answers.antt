@@ -1,11 +1,10 @@
 use native.Mathlib.Omega.{arith}
-use mathlib.Core.List.{[], ◌∷◌, ◌++◌}
+use mathlib.Core.List.{◌∷◌, ◌++◌}
 use Rattle.text.specs.Text.{part}
 use Rattle.output.specs.Put.{Room}
 use Rattle.output.proofs.Laws.{room-first, room_next, wrote-next}
 use Rattle.reporting.specs.Bounds.{pair}
 use Rattle.reporting.proofs.Chains.{wrote-under, named-inside, item_run, item-run, item_room}
-use borrow.Author.Rules.{rules}
 use Rattle.reporting.proofs.put_item.Goals.{After-put_byte-arg-1, After-put_name-arg-1, After-put_pair-arg-1, After-put_pair-arg-2-1}
 use Rattle.reporting.proofs.put_item.Goals as goal
 

@@ -1,14 +1,10 @@
-use Prim.Native.Nat.{ℕ, ◌*◌, ◌-◌, ◌≤◌, ◌+◌}
+use Prim.Native.Nat.{◌-◌}
 use native.Mathlib.Omega.{arith}
-use mathlib.Core.List.{List}
-use lib.ListN.{length, get_or}
-use Rattle.paths.specs.Path.{table_from, table_of, no_place}
+use Rattle.paths.specs.Path.{table_of}
 use Rattle.paths.proofs.Tables.{row_named}
 use Rattle.output.proofs.Laws.{wrote-length}
-use Rattle.reporting.specs.Text.{item_lines}
-use Rattle.reporting.specs.Bounds.{item_bound, items_bound}
-use Rattle.reporting.proofs.Loops.{Putting, putting-none, putting-room, putting-more, putting-end, items_left, items-all, items-next, items-none}
-use borrow.Author.Rules.{rules}
+use Rattle.reporting.specs.Bounds.{items_bound}
+use Rattle.reporting.proofs.Loops.{putting-none, putting-room, putting-more, putting-end, items-all, items-next, items-none}
 use Rattle.reporting.proofs.put_items.Goals as goal
 
 pub loop-k-init : goal.loop-k-init

@@ -1,5 +1,4 @@
 use Rattle.reporting.proofs.Chains.{name-room, name-wrote}
-use borrow.Author.Rules.{rules}
 use Rattle.reporting.proofs.put_name.Goals as goal
 
 pub put_part-requires : goal.put_part-requires

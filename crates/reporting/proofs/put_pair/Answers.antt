@@ -1,7 +1,6 @@
 use mathlib.Core.List.{◌∷◌}
 use Rattle.output.specs.Decimal.{decimal}
 use Rattle.output.proofs.Laws.{room-first, room_next, wrote-next}
-use borrow.Author.Rules.{rules}
 use Rattle.reporting.proofs.put_pair.Goals as goal
 
 pub put_field-next-requires : goal.put_field-next-requires

@@ -1,12 +1,11 @@
 use native.Mathlib.Omega.{arith}
-use mathlib.Core.List.{[], ◌∷◌, ◌++◌}
+use mathlib.Core.List.{◌∷◌, ◌++◌}
 use Rattle.paths.specs.Path.{table_of}
 use Rattle.output.specs.Put.{Room}
 use Rattle.output.proofs.Laws.{room-first, room_next, wrote-next}
 use Rattle.reporting.specs.Bounds.{pair}
 use Rattle.reporting.specs.Text.{item_lines}
 use Rattle.reporting.proofs.Chains.{wrote-under, table-length, path-run, path_room}
-use borrow.Author.Rules.{rules}
 use Rattle.reporting.proofs.put_path.Goals.{After-put_byte-arg-1, After-put_byte-arg-2-1, After-put_pair-arg-1}
 use Rattle.reporting.proofs.put_path.Goals as goal
 

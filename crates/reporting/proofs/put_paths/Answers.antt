@@ -1,14 +1,12 @@
-use Prim.Native.Nat.{ℕ, ◌*◌, ◌-◌, ◌≤◌, ◌+◌}
+use Prim.Native.Nat.{◌-◌, ◌+◌}
 use native.Mathlib.Omega.{arith}
-use mathlib.Core.List.{List, ◌++◌}
+use mathlib.Core.List.{◌++◌}
 use mathlib.Core.Path.{sym, ap, ◌∙◌, subst}
-use lib.ListN.{length}
 use Rattle.paths.specs.Path.{table_of, WellFormed}
-use Rattle.tables.specs.State.{tables_of}
 use Rattle.output.proofs.Laws.{wrote-length}
-use Rattle.reporting.specs.Text.{path_line, path_lines}
-use Rattle.reporting.specs.Bounds.{path_bound, paths_bound}
-use Rattle.reporting.proofs.Loops.{Putting, putting-none, putting-room, putting-more, putting-end, paths_left, paths-all, paths-next, paths-none}
+use Rattle.reporting.specs.Text.{path_line}
+use Rattle.reporting.specs.Bounds.{paths_bound}
+use Rattle.reporting.proofs.Loops.{putting-none, putting-room, putting-more, putting-end, paths_left, paths-all, paths-next, paths-none}
 use Rattle.reporting.proofs.put_paths.Goals as goal
 
 pub loop-p-init : goal.loop-p-init

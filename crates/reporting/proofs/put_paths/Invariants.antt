@@ -1,14 +1,8 @@
-use Prim.Native.Nat.{ℕ, ◌*◌, ◌-◌, ◌≤◌, ◌+◌}
-use native.Mathlib.Omega.{arith}
-use mathlib.Core.List.{List, ◌++◌}
-use mathlib.Core.Path.{sym, ap, ◌∙◌, subst}
-use lib.ListN.{length}
-use Rattle.paths.specs.Path.{table_of, WellFormed}
+use Prim.Native.Nat.{◌*◌, ◌-◌, ◌≤◌}
 use Rattle.tables.specs.State.{tables_of}
-use Rattle.output.proofs.Laws.{wrote-length}
-use Rattle.reporting.specs.Text.{path_line, path_lines}
-use Rattle.reporting.specs.Bounds.{path_bound, paths_bound}
-use Rattle.reporting.proofs.Loops.{Putting, putting-none, putting-room, putting-more, putting-end, paths_left, paths-all, paths-next, paths-none}
+use Rattle.reporting.specs.Text.{path_lines}
+use Rattle.reporting.specs.Bounds.{path_bound}
+use Rattle.reporting.proofs.Loops.{Putting, paths_left}
 use Rattle.reporting.proofs.put_paths.Given as goal
 
 abbrev pub invariant-loop-p : goal.invariant-loop-p

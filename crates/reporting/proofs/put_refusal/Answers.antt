@@ -1,11 +1,10 @@
 use native.Mathlib.Omega.{arith}
-use mathlib.Core.List.{[], ◌∷◌, ◌++◌}
+use mathlib.Core.List.{◌∷◌, ◌++◌}
 use Rattle.output.specs.Decimal.{decimal}
 use Rattle.output.specs.Put.{Room}
 use Rattle.output.proofs.Laws.{room-first, room_next, wrote-next}
 use Rattle.reporting.specs.Bounds.{pair}
 use Rattle.reporting.proofs.Chains.{located, wrote-under, refusal-run, refusal-room}
-use borrow.Author.Rules.{rules}
 use Rattle.reporting.proofs.put_refusal.Goals.{After-put_bytes-arg-2-1, After-put_decimal-arg-1, After-put_pair-arg-1, After-put_pair-arg-2-1}
 use Rattle.reporting.proofs.put_refusal.Goals as goal
 

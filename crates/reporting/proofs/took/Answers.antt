@@ -1,4 +1,3 @@
-use Prim.Native.Nat.{ℕ}
 use Rattle.reporting.proofs.Items.{took-none, took-some}
 use Rattle.reporting.proofs.took.Goals as goal
 

@@ -8,7 +8,6 @@ use Rattle.reader.proofs.Agree.{statement-on}
 use Rattle.nodes.proofs.Laws.{below, statement-is, statement-holds}
 use Rattle.statements.specs.Steps.{wait_step}
 use Rattle.statements.proofs.Walking.{at_next, told-wait, told-verify, told-return}
-use borrow.Author.Rules.{rules}
 use Rattle.statements.proofs.analyze_statement.Goals as goal
 
 pub statement_at-line-requires : goal.statement_at-line-requires

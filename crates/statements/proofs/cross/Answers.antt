@@ -3,7 +3,6 @@ use mathlib.Core.Path.{sym, ap, ◌∙◌}
 use Rattle.nodes.specs.declared.Answer.TheVariants.{Fault}
 use Rattle.paths.specs.Path.{table_of}
 use Rattle.statements.proofs.Walking.{in-range, out_of_range, crossed-past, crossed}
-use borrow.Author.Rules.{rules}
 use Rattle.statements.proofs.cross.Goals as goal
 
 pub returns-in-Err : goal.returns-in-Err

@@ -1,6 +1,5 @@
 use Prim.Native.Nat.{suc}
 use Rattle.statements.proofs.Walking.{read_next, in_use, tried-as}
-use borrow.Author.Rules.{rules}
 use Rattle.statements.proofs.cross_to.Goals as goal
 
 pub cross-requires : goal.cross-requires

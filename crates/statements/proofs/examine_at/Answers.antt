@@ -2,7 +2,6 @@ use native.Mathlib.Omega.{arith}
 use mathlib.Core.Path.{sym, ap, ◌∙◌}
 use Rattle.nodes.specs.declared.Answer.TheVariants.{Fault}
 use Rattle.statements.proofs.Walking.{in-range, out_of_range, tried-past, tried}
-use borrow.Author.Rules.{rules}
 use Rattle.statements.proofs.examine_at.Goals as goal
 
 pub examine-requires : goal.examine-requires

@@ -1,5 +1,4 @@
 use mathlib.Core.Path.{refl, sym, ◌∙◌}
-use borrow.Author.Rules.{rules}
 use Rattle.statements.proofs.expression_step.Goals as goal
 
 pub returns-then-has_names : goal.returns-then-has_names

@@ -4,7 +4,6 @@ use Rattle.nodes.proofs.Laws.{walked-pass}
 use Rattle.rules.specs.Result.{err}
 use Rattle.statements.proofs.Walking.{in-range, out_of_range, examined-past}
 use Rattle.statements.proofs.Examining.{judged-passes, judged-stops}
-use borrow.Author.Rules.{rules}
 use Rattle.statements.proofs.judge_at.Goals as goal
 
 pub returns-in-Err : goal.returns-in-Err

@@ -1,6 +1,5 @@
 use mathlib.Core.Path.{sym, ap}
 use Rattle.statements.specs.Steps.{row_after}
-use borrow.Author.Rules.{rules}
 use Rattle.statements.proofs.row_after.Goals as goal
 
 pub returns-in-Pass : goal.returns-in-Pass

@@ -1,5 +1,4 @@
 use mathlib.Core.Path.{sym, ap}
-use borrow.Author.Rules.{rules}
 use Rattle.statements.specs.Steps.{wait_step}
 use Rattle.statements.proofs.wait_step.Goals as goal
 

@@ -1,6 +1,5 @@
 use mathlib.Core.Path.{refl}
 use native.Mathlib.Omega.{arith}
-use borrow.Author.Rules.{rules}
 use Rattle.tables.proofs.path_in_use.Goals as goal
 
 pub returns-then-d-branch : goal.returns-then-d-branch

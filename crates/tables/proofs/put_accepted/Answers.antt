@@ -1,5 +1,4 @@
 use Rattle.tables.specs.State.{accepted}
-use borrow.Author.Rules.{rules}
 use Rattle.tables.proofs.put_accepted.Goals as goal
 
 pub returns : goal.returns

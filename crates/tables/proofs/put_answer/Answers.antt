@@ -1,5 +1,4 @@
 use Rattle.tables.proofs.State.{stored}
-use borrow.Author.Rules.{rules}
 use Rattle.tables.proofs.put_answer.Goals as goal
 
 pub returns : goal.returns

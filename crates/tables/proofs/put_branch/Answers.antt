@@ -1,6 +1,5 @@
 use mathlib.Core.Path.{refl}
 use Rattle.tables.specs.State.{turned}
-use borrow.Author.Rules.{rules}
 use Rattle.tables.proofs.put_branch.Goals as goal
 
 pub returns : goal.returns

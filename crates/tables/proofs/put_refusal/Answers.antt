@@ -1,7 +1,4 @@
-use mathlib.Core.Path.{◌∙◌, ap}
-use mathlib.Core.List.{[], ◌∷◌}
 use Rattle.tables.specs.State.{refusal}
-use borrow.Author.Rules.{rules}
 use Rattle.tables.proofs.put_refusal.Goals as goal
 
 pub returns : goal.returns

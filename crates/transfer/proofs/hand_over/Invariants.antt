@@ -1,9 +1,5 @@
 use Prim.Native.Nat.{◌-◌, ◌≤◌}
-use native.Mathlib.Numerals.{add-one}
-use native.Mathlib.Omega.{arith}
-use mathlib.Core.Path.{◌≡◌, refl, ap, ◌∙◌}
-use lib.ListN.{get_or}
-use Rattle.paths.specs.Path.{no_place, marked}
+use mathlib.Core.Path.{◌≡◌}
 use Rattle.transfer.specs.Handed.{handed}
 use Rattle.transfer.proofs.hand_over.Given as goal
 

@@ -1,5 +1,4 @@
 use mathlib.Core.Path.{sym, ap₂, ◌∙◌}
-use borrow.Author.Rules.{rules}
 use Rattle.ast.specs.Tree.{same}
 use Rattle.names.proofs.Laws.{name-inside, item-is}
 use Rattle.transfer.proofs.same_item.Goals as goal

@@ -1,9 +1,7 @@
-use Prim.Native.Nat.{◌-◌, ◌≤◌, ◌<◌}
+use Prim.Native.Nat.{◌-◌, ◌<◌}
 use native.Mathlib.Omega.{arith}
-use mathlib.Core.Bool.{true}
 use mathlib.Core.Path.{◌≡◌, refl, sym, ◌∙◌}
 use borrow.Author.Tests.{not-true, not-false}
-use lib.ListN.{take}
 use Rattle.rules.specs.Transfer.{placed}
 use Rattle.taken.specs.Taken.{first_free}
 use Rattle.paths.specs.Path.{table_of}

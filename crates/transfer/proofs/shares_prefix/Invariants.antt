@@ -1,14 +1,9 @@
-use Prim.Native.Nat.{◌-◌, ◌≤◌, ◌<◌}
-use native.Mathlib.Omega.{arith}
+use Prim.Native.Nat.{◌-◌, ◌≤◌}
 use mathlib.Core.Bool.{true}
-use mathlib.Core.Path.{◌≡◌, refl, sym, ◌∙◌}
-use borrow.Author.Tests.{not-true, not-false}
+use mathlib.Core.Path.{◌≡◌}
 use lib.ListN.{take}
 use Rattle.rules.specs.Transfer.{placed}
-use Rattle.taken.specs.Taken.{first_free}
 use Rattle.paths.specs.Path.{table_of}
-use Rattle.paths.proofs.Tables.{row_named}
-use Rattle.transfer.proofs.Transfer.{run-below, agree_at, agree-past, agree-here, shared-not, shared-more, shared-all}
 use Rattle.transfer.proofs.shares_prefix.Given as goal
 
 abbrev pub invariant-loop-k : goal.invariant-loop-k

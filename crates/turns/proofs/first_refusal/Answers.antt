@@ -1,4 +1,3 @@
-use borrow.Author.Rules.{rules}
 use Rattle.turns.proofs.Turning.{first-refused, first-passed}
 use Rattle.turns.proofs.first_refusal.Goals as goal
 

@@ -1,4 +1,3 @@
-use borrow.Author.Rules.{rules}
 use Rattle.turns.proofs.Turning.{other-type, by_name}
 use Rattle.turns.proofs.is_item.Goals as goal
 

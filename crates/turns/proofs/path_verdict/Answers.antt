@@ -1,4 +1,3 @@
-use borrow.Author.Rules.{rules}
 use Rattle.turns.proofs.Turning.{no-path, a-path}
 use Rattle.turns.proofs.path_verdict.Goals as goal
 

@@ -1,8 +1,6 @@
-use Prim.Native.Nat.{◌-◌, ◌≤◌}
+use Prim.Native.Nat.{◌-◌}
 use native.Mathlib.Omega.{arith}
-use mathlib.Core.Path.{◌≡◌, refl, sym, ◌∙◌}
-use lib.ListN.{length, drop}
-use Rattle.ast.specs.Tree.{same}
+use mathlib.Core.Path.{refl, sym, ◌∙◌}
 use Rattle.names.proofs.Laws.{same-lengths}
 use Rattle.turns.proofs.Turning.{same-less, same_more, same-done}
 use Rattle.turns.proofs.same_bytes.Goals as goal

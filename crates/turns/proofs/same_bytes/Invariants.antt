@@ -1,10 +1,7 @@
 use Prim.Native.Nat.{◌-◌, ◌≤◌}
-use native.Mathlib.Omega.{arith}
-use mathlib.Core.Path.{◌≡◌, refl, sym, ◌∙◌}
+use mathlib.Core.Path.{◌≡◌}
 use lib.ListN.{length, drop}
 use Rattle.ast.specs.Tree.{same}
-use Rattle.names.proofs.Laws.{same-lengths}
-use Rattle.turns.proofs.Turning.{same-less, same_more, same-done}
 use Rattle.turns.proofs.same_bytes.Given as goal
 
 abbrev pub invariant-loop-k : goal.invariant-loop-k

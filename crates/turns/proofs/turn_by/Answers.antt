@@ -1,4 +1,3 @@
-use borrow.Author.Rules.{rules}
 use mathlib.Core.Path.{ap, ◌∙◌}
 use Rattle.turns.specs.Turns.{first}
 use Rattle.turns.proofs.Turning.{by-refusal, by_turn}

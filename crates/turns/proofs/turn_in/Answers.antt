@@ -1,4 +1,3 @@
-use borrow.Author.Rules.{rules}
 use Rattle.turns.proofs.Turning.{turns-open, turns-lay, turns-back}
 use Rattle.turns.proofs.turn_in.Goals as goal
 

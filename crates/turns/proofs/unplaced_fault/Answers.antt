@@ -1,4 +1,3 @@
-use borrow.Author.Rules.{rules}
 use mathlib.Core.Path.{ap}
 use Rattle.ast.specs.Tree.{fault}
 use Rattle.turns.proofs.unplaced_fault.Goals as goal

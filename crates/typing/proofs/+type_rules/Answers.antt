@@ -1,12 +1,8 @@
 -- The five type rules and their operands meet their contracts. The measure of each pairs the rows that are left with the rank of the rule:
 -- a rule goes to a row below, or on the same row to a rule of lower rank.
-use Prim.Native.Nat.{ℕ, ◌+◌, ◌*◌, ◌-◌, ◌<◌}
 use native.Mathlib.Omega.{arith}
 use mathlib.Core.Path.{refl, sym, ap, ◌∙◌}
-use borrow.Author.Rules.{rules}
 use borrow.Enum.Refused.{opened}
-use mathlib.Core.List.{List}
-use lib.ListN.{length}
 use Rattle.ast.specs.declared.Type.TheVariants.{Number, Boolean}
 use Rattle.ast.specs.declared.ErrorKind.TheVariants.{InvalidOperation}
 use Rattle.ast.specs.Tree.{from_top}

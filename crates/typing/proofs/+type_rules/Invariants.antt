@@ -1,26 +1,8 @@
 -- The five type rules and their operands meet their contracts. The measure of each pairs the rows that are left with the rank of the rule:
 -- a rule goes to a row below, or on the same row to a rule of lower rank.
-use Prim.Native.Nat.{ℕ, ◌+◌, ◌*◌, ◌-◌, ◌<◌}
-use native.Mathlib.Omega.{arith}
-use mathlib.Core.Path.{refl, sym, ap, ◌∙◌}
-use borrow.Author.Rules.{rules}
+use Prim.Native.Nat.{ℕ, ◌+◌, ◌*◌, ◌-◌}
 use mathlib.Core.List.{List}
 use lib.ListN.{length}
-use Rattle.ast.specs.declared.Type.TheVariants.{Number, Boolean}
-use Rattle.ast.specs.declared.ErrorKind.TheVariants.{InvalidOperation}
-use Rattle.ast.specs.Tree.{from_top}
-use Rattle.listing.specs.declared.Line.{Line}
-use Rattle.reader.specs.Spells.{SpellsExpression, SpellsFactor}
-use Rattle.reader.proofs.Agree.{expression-on}
-use Rattle.nodes.specs.Stands.{walked}
-use Rattle.nodes.proofs.Laws.{expression-is, expression-holds, row-part}
-use Rattle.rules.specs.Result.{both, refused}
-use Rattle.rules.specs.Types.{ascii, factor, unary, string, number, truth, hashed, general}
-use Rattle.operands.specs.Typed.{rule_of, wants, compare_two}
-use Rattle.operands.proofs.Laws.{row_low, operand, operands, left-under, right-under, two-fault, two-pass, turn, leaf, by-operand, by_two}
-use Rattle.nodes.proofs.Others.{others}
-use Rattle.typing.proofs.Compare.{compare-unknown, compare-sorted}
-use Rattle.typing.proofs.Others.{Refuses, ByGeneral, refused-here, not-strings, string-refuses, not-numbers, number-refuses, not-truths, truth-refuses, no-hashes, hashed-general}
 use Rattle.typing.proofs.+type_rules.Given as goal
 
 abbrev measure : List ℕ → ℕ → ℕ → ℕ

@@ -1,27 +1,12 @@
 -- The walk over the names of expressions and factors meets its contracts. The measure is the rows left; the factors of a multi-signature begin at
 -- the row of the first.
-use Prim.Native.Nat.{ℕ, suc, ◌+◌, ◌*◌, ◌-◌, ◌<◌}
-use native.Mathlib.Omega.{arith}
-use mathlib.Core.Path.{◌≡◌, subst}
-use borrow.Author.Rules.{rules}
+use Prim.Native.Nat.{suc, ◌*◌, ◌-◌}
 use lib.ListN.{length}
 use Rattle.rows.specs.Rows.{line_in}
-use Rattle.ast.specs.declared.Location.{Location}
-use Rattle.ast.specs.Tree.{Expression}
-use Rattle.text.specs.declared.Place.{Place}
-use Rattle.listing.specs.declared.ExpressionLine.{ExpressionLine}
-use Rattle.listing.specs.declared.Line.{Line}
-use Rattle.reader.specs.Spells.{SpellsExpression, SpellsFactors}
-use Rattle.reader.proofs.Agree.{expression-on}
-use Rattle.nodes.specs.Stands.{ExpressionAt}
-use Rattle.usage.specs.declared.Parts.{Parts}
-use Rattle.usage.specs.declared.Parts.TheVariants.{Named}
+use Rattle.reader.specs.Spells.{SpellsFactors}
 use Rattle.rules.specs.Usage.{usage_factors}
-use Rattle.paths.specs.Path.{table_of}
-use Rattle.usage.specs.Walk.{SpellsExpressions, usage_all, PartsAre}
-use Rattle.nodes.proofs.Laws.{expression-holds, factor-holds, below}
-use Rattle.paths.proofs.Walks.{walk_is, walk-idle}
-use Rattle.usage.proofs.Trees.{factor-parts, factors-series, expressions-series, Rest, rest_all, rest-done, rest-first, rest-fault, rest_more, rest-on, rest-few, rest_below, named-walk, named-inside, signed-walk, signed-stands}
+use Rattle.usage.specs.Walk.{SpellsExpressions, usage_all}
+use Rattle.usage.proofs.Trees.{Rest}
 use Rattle.usage.proofs.+check_factors_check_inner_check_variables.Given as goal
 
 abbrev pub decreases-check_factors : goal.decreases-check_factors

@@ -1,4 +1,3 @@
-use borrow.Author.Rules.{rules}
 use Rattle.usage.proofs.Names.{name_by}
 use Rattle.usage.proofs.is_name.Goals as goal
 

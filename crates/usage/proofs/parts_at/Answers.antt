@@ -1,7 +1,5 @@
 use borrow.Enum.Refused.{opened}
 use native.Mathlib.Omega.{arith}
-use mathlib.Core.Path.{◌∙◌}
-use borrow.Author.Rules.{rules}
 use Rattle.rows.specs.Rows.{line_in}
 use Rattle.reader.specs.Spells.{SpellsFactor}
 use Rattle.nodes.proofs.Laws.{expression-holds, below}

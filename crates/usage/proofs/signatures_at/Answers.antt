@@ -1,5 +1,4 @@
 use native.Mathlib.Omega.{arith}
-use borrow.Author.Rules.{rules}
 use Rattle.rows.specs.Rows.{line_in}
 use Rattle.nodes.proofs.Laws.{factor-holds}
 use Rattle.usage.proofs.Trees.{factor-parts}

@@ -9,7 +9,6 @@ use Rattle.reporting.specs.Waits.{analysis_in}
 use Rattle.verdicts.specs.declared.Verdict.{Verdict}
 use Rattle.verdicts.specs.Verdicts.{verdict}
 use Rattle.verdicts.proofs.Writing.{no_room, may_write, all-written}
-use borrow.Author.Rules.{rules}
 use Rattle.verdicts.proofs.report_acceptance.Goals as goal
 
 pub shape_of-output-then-not-has_room : goal.shape_of-output-then-not-has_room

@@ -7,7 +7,6 @@ use Rattle.reporting.proofs.Measured.{untouched}
 use Rattle.verdicts.specs.declared.Verdict.{Verdict}
 use Rattle.verdicts.specs.Verdicts.{verdict}
 use Rattle.verdicts.proofs.Writing.{no_room, may_write, all-written}
-use borrow.Author.Rules.{rules}
 use Rattle.verdicts.proofs.report_refusal.Goals as goal
 
 pub put_refusal-n-requires : goal.put_refusal-n-requires

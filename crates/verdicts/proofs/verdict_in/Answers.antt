@@ -1,5 +1,4 @@
 use mathlib.Core.Path.{sym, ◌∙◌}
-use borrow.Author.Rules.{rules}
 use Rattle.ast.specs.declared.KindFound.{KindFound}
 use Rattle.tables.specs.State.{location_in}
 use Rattle.verdicts.proofs.Saying.{says}

@@ -1,4 +1,3 @@
-use borrow.Author.Rules.{rules}
 use Rattle.verdicts.proofs.without_text.Goals as goal
 
 pub returns : goal.returns

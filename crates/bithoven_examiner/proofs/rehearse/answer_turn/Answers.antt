@@ -1,4 +1,3 @@
-use borrow.Author.Rules.{rules}
 use mathlib.Core.Path.{refl}
 use Rattle.rehearsal.specs.Acts.{turned}
 use Rattle.bithoven_examiner.proofs.Rehearsals.{leaves}

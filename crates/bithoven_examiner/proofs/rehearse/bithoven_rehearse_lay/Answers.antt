@@ -1,4 +1,3 @@
-use borrow.Author.Rules.{rules}
 use Rattle.rehearsal.specs.Rehearse.{laid}
 use Rattle.rehearsal.specs.Acts.{act}
 use Rattle.bithoven_examiner.proofs.rehearse.bithoven_rehearse_lay.Goals as goal

@@ -1,4 +1,3 @@
-use borrow.Author.Rules.{rules}
 use Rattle.declarations.specs.Noted.{item_at}
 use Rattle.examiner.proofs.Naming.{accepted-place, refused-place}
 use Rattle.examiner.proofs.name.accepted_place.Goals as goal

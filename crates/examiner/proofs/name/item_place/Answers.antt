@@ -1,4 +1,3 @@
-use borrow.Author.Rules.{rules}
 use mathlib.Core.Path.{sym, ◌∙◌}
 use Rattle.declarations.specs.Noted.{item_at}
 use Rattle.examiner.proofs.Naming.{found-place, nothing-found}

@@ -1,4 +1,3 @@
-use borrow.Author.Rules.{rules}
 use lib.ListN.{length}
 use Rattle.examiner.proofs.Naming.{part-named}
 use Rattle.examiner.proofs.name.name.Goals as goal

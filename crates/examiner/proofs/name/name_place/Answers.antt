@@ -1,4 +1,3 @@
-use borrow.Author.Rules.{rules}
 use Rattle.examiner.proofs.Checking.{may-check}
 use Rattle.examiner.proofs.Naming.{refuses, names}
 use Rattle.examiner.proofs.name.name_place.Goals as goal

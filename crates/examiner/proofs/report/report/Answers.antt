@@ -1,6 +1,5 @@
 use Rattle.examiner.proofs.Checking.{may-check}
 use Rattle.examiner.proofs.Reporting.{short, report-refused, report-read}
-use borrow.Author.Rules.{rules}
 use Rattle.examiner.proofs.report.report.Goals as goal
 
 pub returns-then-work-lt-WORK_WORDS : goal.returns-then-work-lt-WORK_WORDS

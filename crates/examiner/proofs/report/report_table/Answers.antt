@@ -5,7 +5,6 @@ use Rattle.rules.specs.Analyze.{Analysis, analyze}
 use Rattle.reporting.specs.Text.{text_of}
 use Rattle.verdicts.specs.Reports.{reported, written}
 use Rattle.examiner.proofs.Reporting.{found-fault, found-ready, found-analysis, block-rows}
-use borrow.Author.Rules.{rules}
 use Rattle.examiner.proofs.report.report_table.Goals as goal
 
 pub report_acceptance-requires : goal.report_acceptance-requires

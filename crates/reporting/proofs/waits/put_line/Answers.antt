@@ -1,10 +1,9 @@
 use native.Mathlib.Omega.{arith}
-use mathlib.Core.List.{[], ◌∷◌, ◌++◌}
+use mathlib.Core.List.{◌∷◌, ◌++◌}
 use Rattle.output.specs.Put.{Room}
 use Rattle.output.proofs.Laws.{room-first, room_next, wrote-next}
 use Rattle.reporting.specs.Bounds.{pair}
 use Rattle.reporting.proofs.Chains.{wrote-under, wait-run, wait-room}
-use borrow.Author.Rules.{rules}
 use Rattle.reporting.proofs.waits.put_line.Goals.{After-put_byte-arg-1, After-put_pair-arg-1}
 use Rattle.reporting.proofs.waits.put_line.Goals as goal
 

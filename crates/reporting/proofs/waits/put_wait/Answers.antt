@@ -3,7 +3,6 @@ use mathlib.Core.Path.{sym, ◌∙◌}
 use Rattle.output.proofs.Laws.{room_as, wrote_nothing}
 use Rattle.reporting.proofs.Chains.{wrote-under}
 use Rattle.reporting.proofs.WaitLines.{no_line, one_line}
-use borrow.Author.Rules.{rules}
 use Rattle.reporting.proofs.waits.put_wait.Goals as goal
 
 pub put_line-requires : goal.put_line-requires

@@ -1,14 +1,8 @@
-use Prim.Native.Nat.{◌+◌, ◌-◌, ◌*◌, ◌≤◌}
-use native.Mathlib.Omega.{arith}
-use mathlib.Core.Path.{◌≡◌, refl}
-use Rattle.rows.specs.Rows.{line_in}
-use Rattle.limits.specs.Waits.{found_in}
-use Rattle.output.proofs.Laws.{wrote-length}
+use Prim.Native.Nat.{◌-◌, ◌*◌, ◌≤◌}
 use Rattle.reporting.specs.Text.{wait_lines}
-use Rattle.reporting.specs.Bounds.{wait_bound, waits_bound}
+use Rattle.reporting.specs.Bounds.{wait_bound}
 use Rattle.reporting.specs.Waits.{waits_between}
-use Rattle.reporting.proofs.Loops.{Putting, putting-none, putting-room, putting-more, putting-end}
-use Rattle.reporting.proofs.WaitLines.{row_lines, rows_next, rows_none}
+use Rattle.reporting.proofs.Loops.{Putting}
 use Rattle.reporting.proofs.waits.put_waits.Given as goal
 
 abbrev pub invariant-loop-i : goal.invariant-loop-i

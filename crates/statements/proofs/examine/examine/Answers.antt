@@ -1,5 +1,4 @@
 use Rattle.statements.proofs.Examining.{usage-stops, judged-walk}
-use borrow.Author.Rules.{rules}
 use Rattle.statements.proofs.examine.examine.Goals as goal
 
 pub returns-in_default : goal.returns-in_default

@@ -3,7 +3,6 @@ use Rattle.nodes.specs.Stands.{walked}
 use Rattle.rules.specs.Types.{truth}
 use Rattle.names.proofs.Laws.{items-are}
 use Rattle.statements.proofs.Examining.{declares, judged-types, judged-limits}
-use borrow.Author.Rules.{rules}
 use Rattle.statements.proofs.examine.judge.Goals as goal
 
 pub returns-in_default : goal.returns-in_default

@@ -1,14 +1,11 @@
-use Prim.Native.Nat.{ℕ, ◌-◌, ◌≤◌}
+use Prim.Native.Nat.{◌-◌}
 use native.Mathlib.Omega.{arith}
-use mathlib.Core.Path.{◌≡◌, refl, ap, ◌∙◌}
-use borrow.Author.Rules.{rules}
+use mathlib.Core.Path.{refl, ap, ◌∙◌}
 use lib.ListN.{length, length-set}
-use Rattle.ast.specs.Tree.{Contract}
 use Rattle.paths.specs.Path.{table_of}
-use Rattle.declarations.specs.Items.{DeclaredAs}
 use Rattle.tables.specs.State.{passed}
 use Rattle.tables.proofs.State.{no-rows-full, none-taken-full, result-fault, result-pass}
-use Rattle.tables.proofs.Building.{Building, building-none, building-err, building-more, building-all, Usable, items_at, put_is, usable-more, Empty, empty-all, empty-less, built-fault, built-all}
+use Rattle.tables.proofs.Building.{building-none, building-err, building-more, building-all, items_at, put_is, usable-more, empty-all, empty-less, built-fault, built-all}
 use Rattle.tables.proofs.build.build_tables.Goals as goal
 
 pub loop-p-init : goal.loop-p-init

@@ -1,14 +1,9 @@
 use Prim.Native.Nat.{ℕ, ◌-◌, ◌≤◌}
-use native.Mathlib.Omega.{arith}
-use mathlib.Core.Path.{◌≡◌, refl, ap, ◌∙◌}
-use borrow.Author.Rules.{rules}
-use lib.ListN.{length, length-set}
+use mathlib.Core.Path.{◌≡◌}
+use lib.ListN.{length}
 use Rattle.ast.specs.Tree.{Contract}
-use Rattle.paths.specs.Path.{table_of}
 use Rattle.declarations.specs.Items.{DeclaredAs}
-use Rattle.tables.specs.State.{passed}
-use Rattle.tables.proofs.State.{no-rows-full, none-taken-full, result-fault, result-pass}
-use Rattle.tables.proofs.Building.{Building, building-none, building-err, building-more, building-all, Usable, items_at, put_is, usable-more, Empty, empty-all, empty-less, built-fault, built-all}
+use Rattle.tables.proofs.Building.{Building, Usable, Empty}
 use Rattle.tables.proofs.build.build_tables.Given as goal
 
 abbrev pub invariant-loop-p : goal.invariant-loop-p

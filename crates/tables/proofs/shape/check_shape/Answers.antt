@@ -2,7 +2,6 @@ use mathlib.Core.Path.{sym, ap, ◌∙◌}
 use Rattle.rules.specs.Flow.{flow}
 use Rattle.nodes.proofs.Laws.{walked-pass, walked-fault}
 use Rattle.tables.proofs.Counting.{block-stands, shape-fault, shape-even, shape-odd}
-use borrow.Author.Rules.{rules}
 use Rattle.tables.proofs.shape.check_shape.Goals as goal
 
 pub check_flow-a-requires : goal.check_flow-a-requires

@@ -1,6 +1,5 @@
 use mathlib.Core.Path.{◌∙◌}
 use Rattle.tables.proofs.Counting.{first-none, first-empty, first_some, first_holds}
-use borrow.Author.Rules.{rules}
 use Rattle.tables.proofs.shape.first_item.Goals as goal
 
 pub returns-then-d-eq0 : goal.returns-then-d-eq0

@@ -1,11 +1,9 @@
-use Prim.Native.Nat.{◌-◌, ◌≤◌}
+use Prim.Native.Nat.{◌-◌}
 use native.Mathlib.Omega.{arith}
-use mathlib.Core.Path.{◌≡◌, sym, ap, subst, ◌∙◌}
-use borrow.Author.Rules.{rules}
-use Rattle.rules.specs.Unused.{unused, unused_all}
+use mathlib.Core.Path.{sym, ap, subst, ◌∙◌}
+use Rattle.rules.specs.Unused.{unused}
 use Rattle.paths.specs.Path.{table_of, WellFormed}
-use Rattle.tables.specs.State.{tables_of}
-use Rattle.tables.proofs.Leaving.{Left, left-all, left-err, left-ok, left-none}
+use Rattle.tables.proofs.Leaving.{left-all, left-err, left-ok, left-none}
 use Rattle.tables.proofs.unused.check_unused.Goals as goal
 
 pub loop-p-init : goal.loop-p-init

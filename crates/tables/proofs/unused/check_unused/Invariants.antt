@@ -1,11 +1,8 @@
 use Prim.Native.Nat.{◌-◌, ◌≤◌}
-use native.Mathlib.Omega.{arith}
-use mathlib.Core.Path.{◌≡◌, sym, ap, subst, ◌∙◌}
-use borrow.Author.Rules.{rules}
-use Rattle.rules.specs.Unused.{unused, unused_all}
-use Rattle.paths.specs.Path.{table_of, WellFormed}
+use mathlib.Core.Path.{◌≡◌}
+use Rattle.rules.specs.Unused.{unused_all}
 use Rattle.tables.specs.State.{tables_of}
-use Rattle.tables.proofs.Leaving.{Left, left-all, left-err, left-ok, left-none}
+use Rattle.tables.proofs.Leaving.{Left}
 use Rattle.tables.proofs.unused.check_unused.Given as goal
 
 abbrev pub invariant-loop-p : goal.invariant-loop-p
