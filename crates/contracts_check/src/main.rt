@@ -135,12 +135,7 @@ fn print_file(rt: &impl Print, input: &mut impl Read, size: usize) -> io::Result
     read_end(input)
 }
 
-fn file_record(
-    rt: &impl Print,
-    input: &mut impl Read,
-    size: usize,
-    t: Tally,
-) -> io::Result<Step> {
+fn file_record(rt: &impl Print, input: &mut impl Read, size: usize, t: Tally) -> io::Result<Step> {
     if !print_file(rt, input, size)? {
         return cut_short(rt, t.listings);
     }

@@ -104,13 +104,7 @@ fn wrong_words(work: &[u32; 16400], number: u64) -> u64 {
 }
 
 // A listing is read with work enough.
-fn examine(
-    rt: &impl Print,
-    index: u64,
-    listing: &[u8],
-    due: Due,
-    t: Tally,
-) -> io::Result<Tally> {
+fn examine(rt: &impl Print, index: u64, listing: &[u8], due: Due, t: Tally) -> io::Result<Tally> {
     let mut work = [FILLED; 16400];
     let a = answer_of(reading::read_listing(listing, &mut work));
     print_answer(rt, index, a)?;
@@ -130,7 +124,9 @@ fn examine_short(rt: &impl Print, index: u64, listing: &[u8], t: Tally) -> io::R
     print_number(rt, index, " with short work,")?;
     print_number(rt, a.number, ",")?;
     print_number(rt, a.line, "\n")?;
-    let differ = t.differ.wrapping_add(differs(rt, index, a, Due { number: 5, line: 0 })?);
+    let differ = t
+        .differ
+        .wrapping_add(differs(rt, index, a, Due { number: 5, line: 0 })?);
     let wrong = t.wrong.wrapping_add(touched(&work));
     Ok(Tally {
         listings: t.listings,

@@ -1,4 +1,4 @@
-use Rattle.std.proofs.Common.{arith, rules, ◌≡◌, length, length-take}
+use Rattle.std.proofs.Common.{rules, ◌≡◌, length, length-take}
 use Rattle.records.proofs.not_cleared.Goals as goal
 
 pub slice_bounds-count_wrong-end : goal.slice_bounds-count_wrong-end
