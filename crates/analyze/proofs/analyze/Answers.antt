@@ -1,3 +1,4 @@
+use mathlib.Core.List.{[]}
 use mathlib.Core.Path.{ap, ◌∙◌}
 use lib.ListN.{length, get_or}
 use Rattle.tables.proofs.State.{turned-says, turned-branch}

@@ -1,3 +1,4 @@
+use mathlib.Core.List.{[]}
 use Prim.Native.Nat.{ℕ, suc, ◌-◌, ◌%◌}
 use native.Mathlib.Nat.{sub-zero}
 use native.Mathlib.Numerals.{add-one}

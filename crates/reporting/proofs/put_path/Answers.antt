@@ -1,5 +1,5 @@
 use native.Mathlib.Omega.{arith}
-use mathlib.Core.List.{◌∷◌, ◌++◌}
+use mathlib.Core.List.{[], ◌∷◌, ◌++◌}
 use Rattle.paths.specs.Path.{table_of}
 use Rattle.output.specs.Put.{Room}
 use Rattle.output.proofs.Laws.{room-first, room_next, wrote-next}

@@ -1,3 +1,4 @@
+use mathlib.Core.List.{[]}
 use mathlib.Core.Path.{sym, ◌∙◌}
 use Rattle.turns.proofs.Turning.{shows-item, shows-end}
 use Rattle.turns.proofs.shown_in.Goals as goal

@@ -1,5 +1,5 @@
 use native.Mathlib.Omega.{arith}
-use mathlib.Core.List.{◌∷◌}
+use mathlib.Core.List.{[], ◌∷◌}
 use Rattle.rows.specs.Rows.{line_in}
 use Rattle.nodes.proofs.Laws.{below}
 use Rattle.paths.specs.Path.{table_of}

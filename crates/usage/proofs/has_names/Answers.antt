@@ -2,7 +2,7 @@
 use Prim.Native.Nat.{◌+◌, ◌-◌}
 use native.Mathlib.Omega.{arith}
 use mathlib.Core.Bool.{◌||◌, or-false}
-use mathlib.Core.List.{◌∷◌}
+use mathlib.Core.List.{[], ◌∷◌}
 use mathlib.Core.Path.{sym, ap, ◌∙◌}
 use Rattle.rows.specs.Rows.{line_in}
 use Rattle.nodes.specs.Nodes.{expression, SpellsNodes}
