@@ -24,6 +24,8 @@ LEMMAS = {
     ("rules", "take_found"): "take_found_lem",
     ("paths", "take_found"): "take_found_lem",
 }
+# operators whose signs today's gate does not read in a `ghost use` (added after the commit of the spelling, see docs/PORT.md)
+OPERATORS = {"<$>": "<∘>"}
 # what looks like a name and is none: bytes and strings of Rust
 NONE = re.compile(r"^(b'.*|[a-z][A-Z]|aZ_09)$")
 
@@ -84,6 +86,8 @@ def main():
         crate = os.path.relpath(path, os.path.join(top, "crates")).split(os.sep)[0]
         lemmas = {old: new for (name, old), new in LEMMAS.items() if name == crate and path.endswith(".antt")}
         after = WORD.sub(lambda m: turned.get(m.group(0), lemmas.get(m.group(0), m.group(0))), before)
+        for old, new in OPERATORS.items():
+            after = after.replace(old, new)
         if after != before:
             with open(path, "w", encoding="utf-8") as f:
                 f.write(after)
