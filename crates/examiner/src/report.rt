@@ -15,7 +15,7 @@ ghost use Rattle.examiner.specs.Lent.{work_after, output_after};
 use analyze::analyze;
 use ast::ErrorKind;
 use declarations::{Declared, declarations};
-use reading::{ListingRead, read_listing};
+use reading::read_listing;
 use verdicts::{Reported, Verdict, report_acceptance, report_refusal, verdict_in, without_text};
 
 const WORK_WORDS: usize = 16384;
@@ -61,7 +61,7 @@ pub fn report(listing: &[u8], work: &mut [u32], output: &mut [u8]) -> Reported
     }
     let read = read_listing(listing, work);
     match read {
-        ListingRead::Refused(x) => report_refusal(output, x),
-        ListingRead::Rows(n) => report_rows(listing, work, output, n),
+        Err(x) => report_refusal(output, x),
+        Ok(n) => report_rows(listing, work, output, n),
     }
 }

@@ -12,7 +12,7 @@ use text::Place;
 pub const ROW_WORDS: usize = 9;
 
 // The letter of a line's form, its location, and up to four more fields.
-#[derive(Clone, Copy)]
+#[derive(Clone, Copy, PartialEq, Eq)]
 pub struct Words {
     pub kind: u32,
     pub start: u32,
@@ -78,9 +78,5 @@ pub fn clear(work: &mut [u32])
     requires { work_words ≤ length work.old }
     ensures { work.new ≡ cleared work.old }
 {
-    let mut i: usize = 0;
-    while i < 16384 {
-        work[i] = 0;
-        i += 1;
-    }
+    work[..16384].fill(0);
 }
