@@ -23,12 +23,17 @@ def enums(text):
         yield m, m.group(1), [re.match(r"    (\w+)", line).group(1) for line in lines], any("(" in line for line in lines)
 
 
+FUNCTION = re.compile(r"""^(?P<indent>\ *)(?:pub\ )?(?:const\ )?(?:extern\ "C"\ )?fn\ (?P<name>\w+)(?:<[^>]*>)?\((?P<parameters>.*?)\)
+    (?:(?P<answer>(?:\ ->\ [^{\n]+)?)\ (?P<plain>\{\n.*?^(?P=indent)\})
+    |(?P<clauses>.*?)^(?P=indent)(?P<body>\{\n.*?^(?P=indent)\}|\{\}|\{\ .*\ \}$))""", re.M | re.S | re.X)
+
+
 def functions(text):
-    """Name, start, parameters by name and type, clauses, body."""
-    for m in re.finditer(r"^( *)(?:pub )?(?:const )?(?:extern \"C\" )?fn (\w+)(?:<[^>]*>)?\((.*?)\)(.*?)^\1(\{\n.*?^\1\}|\{\}|\{ .* \}$)", text, re.M | re.S):
-        parameters = [p.strip() for p in re.split(r",(?![^\[<(]*[\]>)])", m.group(3)) if p.strip()]
+    """Name, start, parameters by name and type, clauses, body; with clauses the body stands on lines of its own."""
+    for m in FUNCTION.finditer(text):
+        parameters = [p.strip() for p in re.split(r",(?![^\[<(]*[\]>)])", m["parameters"]) if p.strip()]
         named = dict(p.replace("mut ", "", 1).split(": ", 1) for p in parameters if ": " in p)
-        yield m, m.group(2), named, m.group(4), m.group(5)
+        yield m, m["name"], named, m["clauses"] or m["answer"] or "", m["body"] or m["plain"]
 
 
 def at(path, text, position, what):
