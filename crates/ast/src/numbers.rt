@@ -29,12 +29,7 @@ pub fn target_from(n: u32) -> Target
 pub fn type_number(t: Type) -> u32
     ensures { result ≡ type_number t }
 {
-    match t {
-        Type::Signature => 0,
-        Type::Number => 1,
-        Type::String => 2,
-        Type::Boolean => 3,
-    }
+    t as u32
 }
 
 pub fn type_from(n: u32) -> Type
@@ -115,34 +110,15 @@ pub fn locktime_from(n: u32) -> LocktimeOp
 }
 
 // The number of a kind in documents 01 and 02.
+#[tactic(auto, unfolding(crate::specs::Tree::number))]
 pub fn error_number(k: ErrorKind) -> u32
     ensures { result ≡ number k }
 {
-    match k {
-        ErrorKind::ListingTooLong => 1,
-        ErrorKind::MalformedLine => 2,
-        ErrorKind::UnexpectedLine => 3,
-        ErrorKind::CeilingPassed => 4,
-        ErrorKind::WorkTooShort => 5,
-        ErrorKind::OutputTooShort => 6,
-        ErrorKind::DuplicateVariable => 11,
-        ErrorKind::UndefinedVariable => 12,
-        ErrorKind::VariableConsumed => 13,
-        ErrorKind::UnusedVariable => 14,
-        ErrorKind::InvalidConsumptionOrder => 15,
-        ErrorKind::TypeMismatch => 16,
-        ErrorKind::InvalidOperation => 17,
-        ErrorKind::NoReturn => 18,
-        ErrorKind::UnreachableCode => 19,
-        ErrorKind::DeclarationPathMismatch => 20,
-        ErrorKind::IntegerOverflow => 21,
-        ErrorKind::MalformedPubkey => 22,
-        ErrorKind::NoSuchPath => 31,
-        ErrorKind::NotDue => 32,
-    }
+    k as u32
 }
 
 // The kind of a number; nothing of a number that is no kind's.
+#[tactic(auto, unfolding(crate::specs::Tree::number, crate::specs::Numbers::kind_from, crate::specs::Numbers::kind_among, crate::specs::Numbers::found_kind))]
 pub fn error_from(n: u32) -> KindFound
     ensures { result ≡ found_kind (kind_from n) }
 {

@@ -6,9 +6,12 @@ ghost use Rattle.lent_path.specs.Lent.{Kept, take_at, transfer_at};
 
 use lent_path::{Answered, Left, bithoven_take, bithoven_transfer, take_at, transfer_at};
 use paths::{NamePlace, Path};
-use reading::{ListingRead, read_listing};
-use records::read_full;
-use std::io;
+use reading::read_listing;
+use std::io::Read;
+use std::{fmt, io};
+
+// The most that is read of a listing.
+const MOST_READ: u64 = 65536;
 
 // A path that was lent at each step, and the same by value.
 #[derive(Clone, Copy)]
@@ -41,185 +44,151 @@ fn transfer_through(listing: &[u8], table: &[u32], i: usize, from: Path, path: P
     }
 }
 
-fn wide(x: u32) -> u64 {
-    x as u64
+// An answer, printed as its number and its place.
+#[derive(Clone, Copy, PartialEq, Eq)]
+struct Answer([u32; 5]);
+
+impl From<Answered> for Answer {
+    fn from(a: Answered) -> Answer {
+        Answer([a.number, a.start, a.end, a.line, a.column])
+    }
 }
 
-fn print_number(rt: &impl Print, n: u32, after: &str) -> io::Result<()> {
-    records::print_number(rt, wide(n), after)
+impl fmt::Display for Answer {
+    fn fmt<W: fmt::Write>(&self, f: &mut fmt::Formatter<W>) -> fmt::Result {
+        let [number, start, end, line, column] = self.0;
+        write!(f, "{number},{start},{end},{line},{column}")
+    }
 }
 
-fn same_answer(a: Answered, b: Answered) -> bool {
-    if a.number != b.number {
-        return false;
-    }
-    if a.start != b.start {
-        return false;
-    }
-    if a.end != b.end {
-        return false;
-    }
-    if a.line != b.line {
-        return false;
-    }
-    a.column == b.column
+fn is_same_place(a: &NamePlace, b: &NamePlace) -> bool {
+    (a.row, a.line) == (b.row, b.line)
 }
 
-fn same_place(a: NamePlace, b: NamePlace) -> bool {
-    if a.row != b.row {
-        return false;
-    }
-    a.line == b.line
+fn is_same_path(a: &Path, b: &Path) -> bool {
+    (a.count, a.taken) == (b.count, b.taken)
+        && a.places
+            .iter()
+            .zip(&b.places)
+            .all(|(p, q)| is_same_place(p, q))
 }
 
-fn same_path(a: Path, b: Path) -> bool {
-    if a.count != b.count {
-        return false;
+// Whether both ways agree.
+fn agreement(lent: &Left, held: &Left) -> &'static str {
+    if Answer::from(lent.answered) != Answer::from(held.answered) {
+        "OTHER ANSWER"
+    } else if !is_same_path(&lent.path, &held.path) {
+        "OTHER PATH"
+    } else {
+        "same"
     }
-    if a.taken != b.taken {
-        return false;
-    }
-    let mut k: usize = 0;
-    while k < 32 {
-        let p = a.places[k];
-        let q = b.places[k];
-        if !same_place(p, q) {
-            return false;
-        }
-        k += 1;
-    }
-    true
-}
-
-// A step's answer, the path's taken set, the lines that took its first two items, and whether both ways agree.
-fn print_step(rt: &impl Print, name: &str, i: usize, lent: Left, held: Left) -> io::Result<()> {
-    let a = lent.answered;
-    let b = held.answered;
-    let p = lent.path;
-    let q = held.path;
-    print!(rt; "{name}{i}: ")?;
-    print_number(rt, a.number, ",")?;
-    print_number(rt, a.start, ",")?;
-    print_number(rt, a.end, ",")?;
-    print_number(rt, a.line, ",")?;
-    print_number(rt, a.column, "; taken ")?;
-    print_number(rt, p.taken, " by ")?;
-    let first = p.places[0];
-    let second = p.places[1];
-    print_number(rt, first.line as u32, ",")?;
-    print_number(rt, second.line as u32, "; ")?;
-    if !same_answer(a, b) {
-        return println!(rt; "OTHER ANSWER");
-    }
-    if !same_path(p, q) {
-        return println!(rt; "OTHER PATH");
-    }
-    println!(rt; "same")
-}
-
-fn take_both(
-    rt: &impl Print,
-    listing: &[u8],
-    table: &[u32],
-    i: usize,
-    p: Both,
-) -> io::Result<Both> {
-    let a = p.lent;
-    let b = p.held;
-    let lent = take_through(listing, table, i, a);
-    let held = take_at(listing, table, i, b);
-    print_step(rt, "take ", i, lent, held)?;
-    let x = lent.path;
-    let y = held.path;
-    Ok(Both { lent: x, held: y })
-}
-
-fn transfer_both(
-    rt: &impl Print,
-    listing: &[u8],
-    table: &[u32],
-    i: usize,
-    from: Both,
-    p: Both,
-) -> io::Result<Both> {
-    let f = from.lent;
-    let g = from.held;
-    let a = p.lent;
-    let b = p.held;
-    let lent = transfer_through(listing, table, i, f, a);
-    let held = transfer_at(listing, table, i, g, b);
-    print_step(rt, "transfer ", i, lent, held)?;
-    let x = lent.path;
-    let y = held.path;
-    Ok(Both { lent: x, held: y })
 }
 
 // A path of two items, and those of them that are taken.
 fn two_items(top: u16, below: u16, taken: u32) -> Both {
     let mut places = [NamePlace { row: 0, line: 0 }; 32];
-    places[0] = NamePlace { row: top, line: 0 };
-    places[1] = NamePlace {
-        row: below,
-        line: 0,
-    };
-    let lent = Path {
+    places[0].row = top;
+    places[1].row = below;
+    let path = Path {
         places,
         count: 2,
         taken,
     };
-    let held = Path {
-        places,
-        count: 2,
-        taken,
-    };
-    Both { lent, held }
+    Both {
+        lent: path,
+        held: path,
+    }
 }
 
-// Rows 2 and 3 are the items of the first path, 5 and 6 of the second; row 8 is the if, 9 its condition, 14 and 19 are variables.
-fn drive(rt: &impl Print, listing: &[u8], table: &[u32]) -> io::Result<()> {
-    let fresh = two_items(3, 2, 0);
-    let mut p = two_items(3, 2, 0);
-    let mut q = two_items(6, 5, 0);
-    p = take_both(rt, listing, table, 14, p)?;
-    p = take_both(rt, listing, table, 9, p)?;
-    p = take_both(rt, listing, table, 9, p)?;
-    p = take_both(rt, listing, table, 19, p)?;
-    p = take_both(rt, listing, table, 15, p)?;
-    p = take_both(rt, listing, table, 5000, p)?;
-    q = transfer_both(rt, listing, table, 9, p, q)?;
-    q = transfer_both(rt, listing, table, 8, fresh, q)?;
-    q = transfer_both(rt, listing, table, 8, p, q)?;
-    p = take_both(rt, listing, table, 14, p)?;
-    q = transfer_both(rt, listing, table, 8, p, q)?;
-    q = take_both(rt, listing, table, 9, q)?;
-    q = take_both(rt, listing, table, 19, q)?;
-    q = transfer_both(rt, listing, table, 8, q, q)?;
-    p = transfer_both(rt, listing, table, 8, q, p)?;
-    // no paths: row 8 is no item's
-    let mut bad = two_items(3, 8, 0);
-    bad = take_both(rt, listing, table, 9, bad)?;
-    bad = transfer_both(rt, listing, table, 8, p, bad)?;
-    p = transfer_both(rt, listing, table, 8, bad, p)?;
-    take_both(rt, listing, table, 9, p)?;
-    // nor where the top is passed over
-    let mut gap = two_items(3, 2, 2);
-    gap = take_both(rt, listing, table, 9, gap)?;
-    gap = transfer_both(rt, listing, table, 8, fresh, gap)?;
-    transfer_both(rt, listing, table, 8, gap, q)?;
-    Ok(())
+// A listing, its table, and where the steps are printed.
+#[derive(Clone, Copy)]
+struct Driver<'a, P> {
+    rt: &'a P,
+    listing: &'a [u8],
+    table: &'a [u32],
 }
 
-fn read_and_drive(rt: &impl Print, listing: &[u8]) -> io::Result<()> {
-    let mut work = [0u32; 16384];
-    let r = read_listing(listing, &mut work);
-    match r {
-        ListingRead::Rows(_) => drive(rt, listing, &work),
-        ListingRead::Refused(_) => println!(rt; "the listing is refused"),
+impl<P: Print> Driver<'_, P> {
+    // A step's answer, the path's taken set, the lines that took its first two items, and whether both ways agree.
+    fn print_step(&self, name: &str, i: usize, lent: Left, held: Left) -> io::Result<()> {
+        let answer = Answer::from(lent.answered);
+        let path = lent.path;
+        let [first, second, ..] = path.places;
+        println!(self.rt;
+            "{name} {i}: {answer}; taken {} by {},{}; {}",
+            path.taken,
+            first.line,
+            second.line,
+            agreement(&lent, &held)
+        )
+    }
+
+    fn take(&self, i: usize, paths: Both) -> io::Result<Both> {
+        let lent = take_through(self.listing, self.table, i, paths.lent);
+        let held = take_at(self.listing, self.table, i, paths.held);
+        self.print_step("take", i, lent, held)?;
+        Ok(Both {
+            lent: lent.path,
+            held: held.path,
+        })
+    }
+
+    fn transfer(&self, i: usize, from: Both, paths: Both) -> io::Result<Both> {
+        let lent = transfer_through(self.listing, self.table, i, from.lent, paths.lent);
+        let held = transfer_at(self.listing, self.table, i, from.held, paths.held);
+        self.print_step("transfer", i, lent, held)?;
+        Ok(Both {
+            lent: lent.path,
+            held: held.path,
+        })
+    }
+
+    // Rows 2 and 3 are the items of the first path, 5 and 6 of the second; row 8 is the if, 9 its condition, 14 and 19 are variables.
+    fn drive(&self) -> io::Result<()> {
+        let fresh = two_items(3, 2, 0);
+        let mut p = two_items(3, 2, 0);
+        let mut q = two_items(6, 5, 0);
+        p = self.take(14, p)?;
+        p = self.take(9, p)?;
+        p = self.take(9, p)?;
+        p = self.take(19, p)?;
+        p = self.take(15, p)?;
+        p = self.take(5000, p)?;
+        q = self.transfer(9, p, q)?;
+        q = self.transfer(8, fresh, q)?;
+        q = self.transfer(8, p, q)?;
+        p = self.take(14, p)?;
+        q = self.transfer(8, p, q)?;
+        q = self.take(9, q)?;
+        q = self.take(19, q)?;
+        q = self.transfer(8, q, q)?;
+        p = self.transfer(8, q, p)?;
+        // no paths: row 8 is no item's
+        let mut bad = two_items(3, 8, 0);
+        bad = self.take(9, bad)?;
+        bad = self.transfer(8, p, bad)?;
+        p = self.transfer(8, bad, p)?;
+        self.take(9, p)?;
+        // nor where the top is passed over
+        let mut gap = two_items(3, 2, 2);
+        gap = self.take(9, gap)?;
+        gap = self.transfer(8, fresh, gap)?;
+        self.transfer(8, gap, q)?;
+        Ok(())
     }
 }
 
 fn main(rt: HostRuntime) -> io::Result<()> {
-    let mut listing = [0u8; 65536];
-    let n = read_full(&mut rt.stdin(), &mut listing)?;
-    read_and_drive(&rt, &listing[..n])
+    let mut listing = Vec::new(rt.alloc());
+    rt.stdin().take(MOST_READ).read_to_end(&mut listing)?;
+    let mut work = [0u32; 16384];
+    match read_listing(&listing, &mut work) {
+        Ok(_) => Driver {
+            rt: &rt,
+            listing: &listing,
+            table: &work,
+        }
+        .drive(),
+        Err(_) => println!(rt; "the listing is refused"),
+    }
 }

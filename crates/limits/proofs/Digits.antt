@@ -4,11 +4,11 @@ use native.Mathlib.Omega.{arith}
 use mathlib.Core.Bool.{Bool, true, false, ◌&&◌, ◌||◌}
 use mathlib.Core.List.{List, [], ◌∷◌}
 use mathlib.Core.Logic.{◌⊎◌, inl, inr, ◌↔◌}
-use mathlib.Core.Path.{◌≡◌, refl, sym, ◌∙◌}
-use lib.Dec.{leb, eqb}
+use mathlib.Core.Path.{◌≡◌, refl, sym, ap, ◌∙◌}
+use lib.Dec.{leb, eqb, ltb}
 use lib.ListN.{length, take, drop, get_or, length-take, length-drop}
 use lib.Seq.{drop-cons}
-use borrow.Author.Tests.{leb-true, le-leb, lt-leb, eqb-true, eqb-false, eq-eqb, ne_eqb}
+use borrow.Author.Tests.{ltb-true, ltb-false, leb-true, le-leb, lt-leb, eqb-true, eqb-false, eq-eqb, ne_eqb}
 use Rattle.text.specs.declared.Place.{Place}
 use Rattle.text.specs.Text.{within as text_within, is_digit as is_decimal, is_hex_digit, part, hex_value, unhex, bytes_of}
 use Rattle.text.proofs.Every.{Every}
@@ -238,3 +238,15 @@ module _ (s : List ℕ) (i m : ℕ) (h : i + 2 * m ≤ length s) where
         let y : i + 2 * j + 1 ≡ i + (2 * j + 1) = omega arith in
         rw (e.0 (2 * j) (omega arith), y, e.0 (2 * j + 1) (omega arith), ← y) (digit_at s i (2 * m) j h (omega arith) e.1),
   )
+
+pub every-none : (p : ℕ → Bool) → (true ≡ true) ↔ Every p 0
+every-none p = (λ h j l. absurd (omega arith), λ h. refl)
+
+-- one place more
+pub every_more : (p : ℕ → Bool) (n : ℕ) (ok : Bool) → (ok ≡ true) ↔ Every p n → ((ok && p n) ≡ true) ↔ Every p (n + 1)
+every_more p n true h = (λ q j l. last q j l (ltb j n) refl, λ e. e n (omega arith))
+  where
+    last : p n ≡ true → (j : ℕ) → j < n + 1 → (b : Bool) → ltb j n ≡ b → p j ≡ true
+    last q j l true t = h.0 refl j (ltb-true j n t)
+    last q j l false t = let o = ltb-false j n t in let e : j ≡ n = omega arith in ap p e ∙ q
+every_more p n false h = (λ q. absurd (let z : ◌≡◌ {A = ℕ} 0 1 = cc in omega arith), λ e. h.1 (λ j l. e j (omega arith)))

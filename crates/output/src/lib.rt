@@ -1,129 +1,124 @@
-// Text put into a lent output from a position on, or only measured: `writing` says whether bytes are stored.
-// Each function returns the position after its text, which is the same in both cases.
+// Text put into a sink: stored in a lent output, or only counted.
 #![tactic(auto)]
 
-ghost use Rattle.std.specs.Prelude.{true, [], ◌∷◌, ◌≡◌, ◌+◌, length};
+ghost use Rattle.std.specs.Prelude.{◌≡◌, ◌≤◌, ◌∷◌, [], ℕ, ◌+◌, ◌%◌, List, ⊤, length};
 ghost use Rattle.output.specs.Decimal.{decimal};
-ghost use Rattle.output.specs.Put.{Room, Wrote, last_digits};
+ghost use Rattle.output.specs.Sink.{SinkLaws};
+ghost use Rattle.output.specs.Sinks.{counted, counter_laws, stored, HasRoom, writer_laws};
 
 const COMMA: u8 = 44;
 
-// One byte.
-pub fn put_byte(output: &mut [u8], writing: bool, at: usize, b: u8) -> usize
-    requires { Room writing output.old at (b ∷ []) 1 }
-    ensures { Wrote writing output.old at (b ∷ []) 1 output.new result }
-{
-    if writing {
-        output[at] = b;
-    }
-    at + 1
+// Where text is put.
+pub trait Sink {
+    // the sink after a text
+    ghost after: { Self → List ℕ → Self };
+
+    // there is room for a text
+    ghost fits: { Self → List ℕ → Type 0 };
+
+    ghost laws: { SinkLaws after fits };
+
+    // One byte.
+    fn put(&mut self, b: u8)
+        requires { fits self.old (b ∷ []) }
+        ensures { self.new ≡ after self.old (b ∷ []) };
+
+    // All of `s`.
+    fn put_all(&mut self, s: &[u8])
+        requires { fits self.old s.now }
+        ensures { self.new ≡ after self.old s.now };
 }
 
-// All of `s`.
-pub fn put_bytes(output: &mut [u8], writing: bool, at: usize, s: &[u8]) -> usize
-    requires { Room writing output.old at s.now (length s.now) }
-    ensures { Wrote writing output.old at s.now (length s.now) output.new result }
-{
-    if !writing {
-        return at + s.len();
-    }
-    let mut next = at;
-    let mut i: usize = 0;
-    while i < s.len() {
-        next = put_byte(output, true, next, s[i]);
-        i += 1;
-    }
-    next
+// Counts the bytes of a text, up to the largest number.
+#[derive(Clone, Copy)]
+pub struct Counter {
+    pub length: usize,
 }
 
-// How many digits a number has.
-fn decimal_length(x: u32) -> usize
-    ensures { result ≡ length (decimal x) }
-{
-    if x < 10 {
-        return 1;
+impl Sink for Counter {
+    ghost after = { counted };
+
+    ghost fits = { λ _ _. ⊤ };
+
+    ghost laws = { counter_laws };
+
+    fn put(&mut self, _b: u8) {
+        self.length = self.length.saturating_add(1);
     }
-    if x < 100 {
-        return 2;
+
+    fn put_all(&mut self, s: &[u8]) {
+        self.length = self.length.saturating_add(s.len());
     }
-    if x < 1000 {
-        return 3;
-    }
-    if x < 10000 {
-        return 4;
-    }
-    4 + decimal_length(x / 10000)
 }
 
-// The last digit of a number, written.
-fn write_digit(output: &mut [u8], at: usize, x: u32) -> usize
-    requires { Room true output.old at (last_digits 1 x) 1 }
-    ensures { Wrote true output.old at (last_digits 1 x) 1 output.new result }
-{
-    put_byte(output, true, at, (48 + x % 10) as u8)
+// Stores a text in a lent output, from `at` on.
+#[derive(Drop)]
+pub struct Writer<'a> {
+    pub output: &'a mut [u8],
+    pub at: usize,
 }
 
-// The last two digits of a number, written.
-fn write_two(output: &mut [u8], at: usize, x: u32) -> usize
-    requires { Room true output.old at (last_digits 2 x) 2 }
-    ensures { Wrote true output.old at (last_digits 2 x) 2 output.new result }
-{
-    let n = write_digit(output, at, x / 10);
-    write_digit(output, n, x)
+impl Sink for Writer<'_> {
+    ghost after = { stored };
+
+    ghost fits = { HasRoom };
+
+    ghost laws = { writer_laws };
+
+    fn put(&mut self, b: u8) {
+        self.output[self.at] = b;
+        self.at += 1;
+    }
+
+    fn put_all(&mut self, s: &[u8]) {
+        let end = self.at + s.len();
+        self.output[self.at..end].copy_from_slice(s);
+        self.at = end;
+    }
 }
 
-// The last three digits of a number, written.
-fn write_three(output: &mut [u8], at: usize, x: u32) -> usize
-    requires { Room true output.old at (last_digits 3 x) 3 }
-    ensures { Wrote true output.old at (last_digits 3 x) 3 output.new result }
+// The last digit of a number.
+fn put_digit<S: Sink>(sink: &mut S, x: u32)
+    requires { S.fits sink.old ((48 + x % 10) ∷ []) }
+    ensures { sink.new ≡ S.after sink.old ((48 + x % 10) ∷ []) }
 {
-    let n = write_two(output, at, x / 10);
-    write_digit(output, n, x)
+    sink.put(b'0' + (x % 10) as u8);
 }
 
-// A number in decimal, written: three digits at a time.
-fn write_decimal(output: &mut [u8], at: usize, x: u32) -> usize
-    requires { Room true output.old at (decimal x) 10 }
-    ensures { Wrote true output.old at (decimal x) 10 output.new result }
+// A number in decimal: three digits at a time, which is faster than one.
+pub fn put_decimal<S: Sink>(sink: &mut S, x: u32)
+    requires { S.fits sink.old (decimal x) }
+    ensures text { sink.new ≡ S.after sink.old (decimal x) }
+    ensures short { length (decimal x) ≤ 10 }
 {
-    if x < 10 {
-        return write_digit(output, at, x);
+    if x >= 1000 {
+        put_decimal(sink, x / 1000);
     }
-    if x < 100 {
-        return write_two(output, at, x);
+    if x >= 100 {
+        put_digit(sink, x / 100);
     }
-    if x < 1000 {
-        return write_three(output, at, x);
+    if x >= 10 {
+        put_digit(sink, x / 10);
     }
-    let n = write_decimal(output, at, x / 1000);
-    write_three(output, n, x)
-}
-
-// A number in decimal.
-pub fn put_decimal(output: &mut [u8], writing: bool, at: usize, x: u32) -> usize
-    requires { Room writing output.old at (decimal x) 10 }
-    ensures { Wrote writing output.old at (decimal x) 10 output.new result }
-{
-    if writing {
-        return write_decimal(output, at, x);
-    }
-    at + decimal_length(x)
+    put_digit(sink, x);
 }
 
 // A field: a comma and a number.
-pub fn put_field(output: &mut [u8], writing: bool, at: usize, x: u32) -> usize
-    requires { Room writing output.old at (44 ∷ decimal x) 11 }
-    ensures { Wrote writing output.old at (44 ∷ decimal x) 11 output.new result }
+pub fn put_field<S: Sink>(sink: &mut S, x: u32)
+    requires { S.fits sink.old (44 ∷ decimal x) }
+    ensures text { sink.new ≡ S.after sink.old (44 ∷ decimal x) }
+    ensures short { length (44 ∷ decimal x) ≤ 11 }
 {
-    let n = put_byte(output, writing, at, COMMA);
-    put_decimal(output, writing, n, x)
+    sink.put(COMMA);
+    put_decimal(sink, x);
 }
 
 // A field of bytes: a comma and `s`.
-pub fn put_part(output: &mut [u8], writing: bool, at: usize, s: &[u8]) -> usize
-    requires { Room writing output.old at (44 ∷ s.now) (1 + length s.now) }
-    ensures { Wrote writing output.old at (44 ∷ s.now) (1 + length s.now) output.new result }
+pub fn put_part<S: Sink>(sink: &mut S, s: &[u8])
+    requires { S.fits sink.old (44 ∷ s.now) }
+    ensures text { sink.new ≡ S.after sink.old (44 ∷ s.now) }
+    ensures short { length (44 ∷ s.now) ≤ 1 + length s.now }
 {
-    let n = put_byte(output, writing, at, COMMA);
-    put_bytes(output, writing, n, s)
+    sink.put(COMMA);
+    sink.put_all(s);
 }

@@ -1,12 +1,11 @@
 -- What reading a listing into lent work memory answers, and what work then holds.
-use Rattle.std.specs.Prelude.{ℕ, suc, ◌<◌, ◌≤◌, true, false, List, ◌≡◌, ltb, length}
+use Rattle.std.specs.Prelude.{Result, Ok, Err, ℕ, suc, ◌<◌, ◌≤◌, true, false, List, ◌≡◌, ltb, length}
 use Rattle.ast.specs.declared.ErrorKind.TheVariants.{WorkTooShort}
 use Rattle.ast.specs.Tree.{Contract, fault, unplaced}
 use Rattle.rows.specs.Rows.{line_in, with_rows, HasRows}
 use Rattle.rows.specs.Work.{work_words, cleared}
 use Rattle.tree.specs.declared.Lines.{Lines}
-use Rattle.reading.specs.declared.ListingRead.{ListingRead}
-use Rattle.reading.specs.declared.ListingRead.TheVariants.{Rows, Refused}
+use Rattle.ast.specs.declared.CompileError.{CompileError}
 use Rattle.reader.specs.Source.{Source, Read, read, refused}
 use Rattle.reader.specs.Ceilings.{max_lines, max_depth, max_block_depth, within_ceilings}
 use Rattle.reader.specs.Reading.{read_listing}
@@ -22,13 +21,16 @@ pub record Stored (s w t : List ℕ) (n : Lines) : Type 0 where
   pub after : n.count ≤ max_lines → standing (nth n.count 0 s) ≡ elim n.ended [ true ↦ End | false ↦ Malformed ]
 
 -- a reading as the code answers it: how many lines were read, or the refusal
+abbrev pub ListingRead : Type 0
+ListingRead = Result ℕ CompileError
+
 unfoldable pub rows_of : Read Contract → ListingRead
-rows_of (read c q) = Rows q.index
-rows_of (refused x) = Refused x
+rows_of (read c q) = Ok q.index
+rows_of (refused x) = Err x
 
 -- the answer: 5 if work is too short, else what the reading gives
 unfoldable pub listing_read : List ℕ → ℕ → ListingRead
-listing_read s words = elim (ltb words work_words) [ true ↦ Refused (fault WorkTooShort unplaced) | false ↦ rows_of (read_listing s) ]
+listing_read s words = elim (ltb words work_words) [ true ↦ Err (fault WorkTooShort unplaced) | false ↦ rows_of (read_listing s) ]
 
 -- rows that are kept after a reading, and cleared after a refusal
 unfoldable pub rows_kept : Read Contract → List ℕ → List ℕ

@@ -4,179 +4,210 @@
 
 use anyhow::{Context, Result};
 use ast::CompileError;
-use reading::ListingRead;
+use reading::read_listing;
 use records::{
-    FILLED, Head, digit, not_cleared, print_number, read_bytes, read_end, read_full, read_head,
-    touched, touched_past, wide,
+    FILLED, ReadError, Refusal, decimal, not_cleared, read_full, read_head, read_up_to, touched,
+    touched_past,
 };
 use std::fs::File;
-use std::io;
 use std::io::Read;
+use std::{fmt, io};
 
-// The number and the line that are due, which end a record's head.
-#[derive(Clone, Copy)]
-struct Due {
-    number: u64,
-    line: u64,
+// No listing of a record is longer.
+const LONGEST: usize = 65536;
+
+// So many listings are also read with work that is too short.
+const READ_TWICE: usize = 3;
+
+// What a reading gives: how many lines, or a refusal.
+#[derive(Clone, Copy, PartialEq, Eq)]
+enum Answer {
+    Lines(u64),
+    Refused(Refused),
 }
 
-// What a reading gave. The number is 0 and the line the count of lines where the listing was read; the rest is start, end
-// and column together, which are 0 in every refusal of reading.
-#[derive(Clone, Copy)]
-struct Answer {
+// A refusal's number and place.
+#[derive(Clone, Copy, Default, PartialEq, Eq)]
+struct Refused {
     number: u64,
+    start: u64,
+    end: u64,
     line: u64,
-    rest: u64,
+    column: u64,
+}
+
+impl Answer {
+    // The answer of a number and a line, as a record's head has it: the line of a refusal, or, at number 0, the count of lines.
+    fn due(number: u64, line: u64) -> Answer {
+        if number == 0 {
+            return Answer::Lines(line);
+        }
+        Answer::Refused(Refused {
+            number,
+            line,
+            ..Refused::default()
+        })
+    }
+
+    fn is_refused(self) -> bool {
+        matches!(self, Answer::Refused(_))
+    }
+
+    fn number(self) -> u64 {
+        match self {
+            Answer::Lines(_) => 0,
+            Answer::Refused(refused) => refused.number,
+        }
+    }
+
+    fn line(self) -> u64 {
+        match self {
+            Answer::Lines(count) => count,
+            Answer::Refused(refused) => refused.line,
+        }
+    }
+}
+
+impl From<Result<usize, CompileError>> for Answer {
+    fn from(read: Result<usize, CompileError>) -> Answer {
+        match read {
+            Ok(count) => Answer::Lines(count as u64),
+            Err(e) => Answer::Refused(Refused::from(e)),
+        }
+    }
+}
+
+impl From<CompileError> for Refused {
+    fn from(e: CompileError) -> Refused {
+        let loc = e.loc;
+        Refused {
+            number: u64::from(Refusal(e).number()),
+            start: u64::from(loc.start),
+            end: u64::from(loc.end),
+            line: u64::from(loc.line),
+            column: u64::from(loc.column),
+        }
+    }
+}
+
+impl fmt::Display for Answer {
+    fn fmt<W: fmt::Write>(&self, f: &mut fmt::Formatter<W>) -> fmt::Result {
+        write!(f, "{},{}", self.number(), self.line())
+    }
 }
 
 // How many listings were read, how many answers differ from the record's, and how many words of work are not what is due.
-#[derive(Clone, Copy)]
+#[derive(Clone, Copy, Default)]
 struct Tally {
-    listings: u64,
-    differ: u64,
-    wrong: u64,
+    listings: usize,
+    differ: usize,
+    wrong: usize,
+}
+
+impl Tally {
+    fn add(&mut self, differs: bool, wrong: usize) {
+        self.differ = self.differ.saturating_add(usize::from(differs));
+        self.wrong = self.wrong.saturating_add(wrong);
+    }
 }
 
 // The rest of a head after the comma: `number,line` in 1 and 4 digits, and byte 10.
-fn read_due(input: &mut impl Read) -> io::Result<Due> {
+fn read_due(input: &mut impl Read) -> io::Result<Answer> {
     let mut rest = [0u8; 7];
     read_full(input, &mut rest)?;
-    let a = digit(rest[2]);
-    let b = digit(rest[3]);
-    let c = digit(rest[4]);
-    let d = digit(rest[5]);
-    Ok(Due {
-        number: digit(rest[0]) as u64,
-        line: (1000 * a + 100 * b + 10 * c + d) as u64,
-    })
+    Ok(Answer::due(decimal(&rest[..1]) as u64, decimal(&rest[2..6]) as u64))
 }
 
-fn answer_of(r: ListingRead) -> Answer {
-    match r {
-        ListingRead::Rows(n) => Answer {
-            number: 0,
-            line: n as u64,
-            rest: 0,
-        },
-        ListingRead::Refused(e) => refusal(e),
+// Says where the answer is another than the record's. Is it?
+fn differs(rt: &impl Print, index: usize, answer: Answer, due: Answer) -> io::Result<bool> {
+    if answer == due {
+        return Ok(false);
     }
+    println!(rt;
+        "{index} differs: {} at 0,0,{},0 is due",
+        due.number(),
+        due.line()
+    )?;
+    Ok(true)
 }
 
-fn refusal(e: CompileError) -> Answer {
-    let kind = e.kind;
-    let loc = e.loc;
-    let rest = wide(loc.start | loc.end | loc.column);
-    Answer {
-        number: wide(ast::numbers::error_number(kind)),
-        line: wide(loc.line),
-        rest,
-    }
-}
-
-fn print_answer(rt: &impl Print, index: u64, a: Answer) -> io::Result<()> {
-    print_number(rt, index, ",")?;
-    print_number(rt, a.number, ",")?;
-    print_number(rt, a.line, "\n")
-}
-
-// 1 where the answer is another than the record's, which is then said.
-fn differs(rt: &impl Print, index: u64, a: Answer, due: Due) -> io::Result<u64> {
-    if a.number == due.number {
-        if a.line == due.line {
-            if a.rest == 0 {
-                return Ok(0);
-            }
-        }
-    }
-    print_number(rt, index, " differs: ")?;
-    print_number(rt, due.number, " at 0,0,")?;
-    print_number(rt, due.line, ",0 is due\n")?;
-    Ok(1)
-}
-
-// After a refusal 16384 words are zero; those past them are never touched.
-fn wrong_words(work: &[u32; 16400], number: u64) -> u64 {
+// After a refusal the words that are asked are zero; those past them are never touched.
+fn wrong_words(work: &[u32; 16400], answer: Answer) -> usize {
     let past = touched_past(work);
-    if number == 0 {
-        return past;
+    if answer.is_refused() {
+        past.saturating_add(not_cleared(work))
+    } else {
+        past
     }
-    past.wrapping_add(not_cleared(work))
 }
 
 // A listing is read with work enough.
-fn examine(rt: &impl Print, index: u64, listing: &[u8], due: Due, t: Tally) -> io::Result<Tally> {
+fn examine(rt: &impl Print, listing: &[u8], due: Answer, tally: &mut Tally) -> io::Result<()> {
     let mut work = [FILLED; 16400];
-    let a = answer_of(reading::read_listing(listing, &mut work));
-    print_answer(rt, index, a)?;
-    let differ = t.differ.wrapping_add(differs(rt, index, a, due)?);
-    let wrong = t.wrong.wrapping_add(wrong_words(&work, a.number));
-    Ok(Tally {
-        listings: t.listings.wrapping_add(1),
-        differ,
-        wrong,
-    })
+    let answer = Answer::from(read_listing(listing, &mut work));
+    println!(rt; "{},{answer}", tally.listings)?;
+    tally.add(
+        differs(rt, tally.listings, answer, due)?,
+        wrong_words(&work, answer),
+    );
+    Ok(())
 }
 
 // With a word too few the answer is 5 at 0,0,0,0, and work is as it was.
-fn examine_short(rt: &impl Print, index: u64, listing: &[u8], t: Tally) -> io::Result<Tally> {
+fn examine_short(rt: &impl Print, listing: &[u8], tally: &mut Tally) -> io::Result<()> {
     let mut work = [FILLED; 16400];
-    let a = answer_of(reading::read_listing(listing, &mut work[..16383]));
-    print_number(rt, index, " with short work,")?;
-    print_number(rt, a.number, ",")?;
-    print_number(rt, a.line, "\n")?;
-    let differ = t
-        .differ
-        .wrapping_add(differs(rt, index, a, Due { number: 5, line: 0 })?);
-    let wrong = t.wrong.wrapping_add(touched(&work));
-    Ok(Tally {
-        listings: t.listings,
-        differ,
-        wrong,
-    })
+    let answer = Answer::from(read_listing(listing, &mut work[..16383]));
+    println!(rt; "{} with short work,{answer}", tally.listings)?;
+    tally.add(
+        differs(rt, tally.listings, answer, Answer::due(5, 0))?,
+        touched(&work),
+    );
+    Ok(())
 }
 
-// One record: its bytes, and the byte 10 after them. The first three are also read with work too short.
+// One record; false at the end of the input. What is left of a record that is cut short is read too.
 fn examine_record(
-    rt: &impl Print,
+    rt: &(impl Print + AllocGlobal),
     input: &mut impl Read,
-    size: usize,
-    t: Tally,
-) -> io::Result<Tally> {
+    tally: &mut Tally,
+) -> Result<bool, ReadError> {
+    let Some(size) = read_head(input, b',')? else {
+        return Ok(false);
+    };
     let due = read_due(input)?;
-    let mut buffer = [0u8; 65536];
-    let n = read_bytes(input, size, &mut buffer)?;
-    read_end(input)?;
-    let index = t.listings;
-    if index < 3 {
-        let u = examine_short(rt, index, &buffer[..n], t)?;
-        return examine(rt, index, &buffer[..n], due, u);
+    let listing = read_up_to(input, rt.alloc(), size, LONGEST)?;
+    read_full(input, &mut [0u8; 1])?;
+    if tally.listings < READ_TWICE {
+        examine_short(rt, &listing, tally)?;
     }
-    examine(rt, index, &buffer[..n], due, t)
+    examine(rt, &listing, due, tally)?;
+    tally.listings = tally.listings.saturating_add(1);
+    Ok(true)
 }
 
-// All records. Nothing says that a file ends, so the turns are counted down.
-fn examine_all(rt: &impl Print, input: &mut impl Read) -> io::Result<Tally> {
-    let mut t = Tally {
-        listings: 0,
-        differ: 0,
-        wrong: 0,
-    };
-    let mut turns: u32 = 100000;
-    while turns > 0 {
-        let Head::Of(size) = read_head(input, b',')? else {
-            return Ok(t);
-        };
-        t = examine_record(rt, input, size, t)?;
-        turns -= 1;
+fn examine_all(
+    rt: &(impl Print + AllocGlobal),
+    input: &mut impl Read,
+    tally: &mut Tally,
+) -> Result<(), ReadError> {
+    for _ in 0..u64::MAX {
+        if !examine_record(rt, input, tally)? {
+            break;
+        }
     }
-    Ok(t)
+    Ok(())
 }
 
 fn main(rt: HostRuntime) -> Result<()> {
     let mut file = File::open(&rt, "listings").context("listings")?;
-    let t = examine_all(&rt, &mut file)?;
-    print_number(&rt, t.listings, " listings, ")?;
-    print_number(&rt, t.differ, " differ, ")?;
-    print_number(&rt, t.wrong, " words of work wrong\n")?;
+    let mut tally = Tally::default();
+    match examine_all(&rt, &mut file, &mut tally) {
+        Ok(()) | Err(ReadError::CutShort) => {}
+        Err(ReadError::Io(e)) => return Err(e.into()),
+    }
+    println!(rt;
+        "{} listings, {} differ, {} words of work wrong",
+        tally.listings, tally.differ, tally.wrong
+    )?;
     Ok(())
 }

@@ -2,51 +2,73 @@
 // in five digits, the bytes, and byte 10.
 #![tactic(auto)]
 
-ghost use Rattle.std.specs.Prelude.{◌≡◌, ◌%◌, ◌+◌, take, drop};
+ghost use Rattle.std.specs.Prelude.{◌≡◌, ◌+◌, ◌-◌, ◌^◌, min, if◌then◌else◌, IsOk, IsErrOf, ◌<◌, ◌≤◌, [], ◌∷◌, IfOk, IfSome, OnOk, MatchOption, length, take, drop, vec_len};
 ghost use Rattle.std.specs.Io.{ReadsAtMost};
-ghost use Rattle.records.specs.Wrong.{wrong_word, wrong_in};
+ghost use Rattle.std.specs.Io.KnownBytes.{Consumes, IsAtEnd};
+ghost use Rattle.records.specs.Bytes.{number_in, ReadsHead, ReadsRecord, BeginsWithHead, BeginsWithEnd, BeginsWithRecord};
+ghost use Rattle.ast.specs.Tree.{number};
+ghost use Rattle.std.specs.Iterator.{at_most};
+ghost use Rattle.records.specs.declared.ReadError.TheVariants.{CutShort, Io};
+ghost use Rattle.records.specs.Records.{records_input, records_left, records_longest};
+ghost use Rattle.records.specs.Wrong.{wrong_in};
 
-use std::io;
+use ast::CompileError;
+use ast::numbers::error_number;
+use std::alloc::Global;
+use std::error::Error;
 use std::io::Read;
+use std::{fmt, io};
 
 // What work memory holds before a call. It has 16 words more than are asked.
 pub const FILLED: u32 = 7;
 
-// A record's head: how many bytes it has; or the end of the file; or what is no head.
-#[derive(Clone, Copy)]
-pub enum Head {
-    Of(usize),
-    End,
-    Cut,
+// How many words of work memory are asked.
+pub const ASKED: usize = 16384;
+
+// Why a record was not read.
+#[derive(Debug, Drop)]
+pub enum ReadError {
+    CutShort,
+    Io(io::Error),
 }
 
-pub fn wide(x: u32) -> u64
-    ensures { result ≡ x }
+impl fmt::Display for ReadError {
+    fn fmt<W: fmt::Write>(&self, f: &mut fmt::Formatter<W>) -> fmt::Result {
+        match self {
+            ReadError::CutShort => write!(f, "a record is cut short"),
+            ReadError::Io(e) => write!(f, "{e}"),
+        }
+    }
+}
+
+impl Error for ReadError {}
+
+impl From<io::Error> for ReadError {
+    ghost from_gives = { λ e r. r ≡ Io e };
+
+    fn from(e: io::Error) -> ReadError {
+        ReadError::Io(e)
+    }
+}
+
+// The number that decimal digits spell, each the low half of its byte.
+pub fn decimal(digits: &[u8]) -> usize
+    requires { length digits.now ≤ 5 }
+    ensures { result ≡ number_in 0 digits.now }
 {
-    x as u64
-}
-
-// What a decimal digit stands for: the low half of its byte.
-pub fn digit(b: u8) -> usize
-    ensures { result ≡ b % 16 }
-{
-    (b % 16) as usize
-}
-
-// The five digits of a head.
-fn length_in(head: &[u8; 6]) -> usize {
-    let a = digit(head[0]);
-    let b = digit(head[1]);
-    let c = digit(head[2]);
-    let d = digit(head[3]);
-    let e = digit(head[4]);
-    10000 * a + 1000 * b + 100 * c + 10 * d + e
+    let mut number = 0;
+    for digit in digits {
+        number = 10 * number + usize::from(digit % 16);
+    }
+    number
 }
 
 // Reads until the buffer is full or the input ends, and answers how many bytes it put at the buffer's start. A read that fails is
 // the error.
 pub fn read_full<R: Read>(reader: &mut R, buffer: &mut [u8]) -> io::Result<usize>
-    ensures { ReadsAtMost result buffer.new }
+    ensures bound { ReadsAtMost result buffer.new }
+    ensures bytes { IfOk result (λ n. Consumes (R.remaining reader.old) (R.remaining reader.new) (take n buffer.new)) }
+    ensures end { IfOk result (λ n. n < length buffer.new → IsAtEnd (R.remaining reader.new)) }
 {
     let mut done = 0;
     while done < buffer.len() {
@@ -59,91 +81,239 @@ pub fn read_full<R: Read>(reader: &mut R, buffer: &mut [u8]) -> io::Result<usize
     Ok(done)
 }
 
-// The next head's five digits, and the byte that must stand after them.
-pub fn read_head<R: Read>(reader: &mut R, after: u8) -> io::Result<Head> {
+// The next `size` bytes, or fewer where the input ends among them; none, and nothing is read, where `size` is over `longest`.
+pub fn read_up_to<R: Read>(
+    reader: &mut R,
+    alloc: Global,
+    size: usize,
+    longest: usize,
+) -> io::Result<Vec<u8>>
+    ensures bound { IfOk result (λ bytes. (vec_len bytes ≤ size) × (vec_len bytes ≤ longest)) }
+    ensures bytes { IfOk result (λ bytes. Consumes (R.remaining reader.old) (R.remaining reader.new) bytes.items) }
+    ensures end { IfOk result (λ bytes. size ≤ longest → vec_len bytes < size → IsAtEnd (R.remaining reader.new)) }
+{
+    if size > longest {
+        return Ok(Vec::new(alloc));
+    }
+    let mut bytes = vec![in alloc; 0; size]?;
+    let n = read_full(reader, &mut bytes)?;
+    bytes.truncate(n);
+    Ok(bytes)
+}
+
+// The next `size` bytes, at most `longest`.
+pub fn read_bytes<R: Read>(
+    reader: &mut R,
+    alloc: Global,
+    size: usize,
+    longest: usize,
+) -> Result<Vec<u8>, ReadError>
+    ensures size { IfOk result (λ bytes. (vec_len bytes ≡ size) × (size ≤ longest)) }
+    ensures bytes { IfOk result (λ bytes. Consumes (R.remaining reader.old) (R.remaining reader.new) bytes.items) }
+    ensures cut_short { IsErrOf result ReadError.CutShort → size ≤ longest → IfSome (R.remaining reader.old) (λ xs. length xs < size) }
+{
+    if size > longest {
+        return Err(ReadError::CutShort);
+    }
+    let bytes = read_up_to(reader, alloc, size, longest)?;
+    if bytes.len() < size {
+        return Err(ReadError::CutShort);
+    }
+    Ok(bytes)
+}
+
+// The next head's five digits, and the byte that must stand after them; none at the input's end.
+pub fn read_head<R: Read>(reader: &mut R, after: u8) -> Result<Option<usize>, ReadError>
+    ensures ok { IfOk result (λ head. MatchOption head (IsAtEnd (R.remaining reader.old))
+        (ReadsHead (R.remaining reader.old) (R.remaining reader.new) after)) }
+    ensures cut_short { IsErrOf result ReadError.CutShort → IfSome (R.remaining reader.old) (λ xs. ¬ BeginsWithHead after xs) }
+{
     let mut head = [0u8; 6];
-    let n = read_full(reader, &mut head)?;
-    if n == 0 {
-        return Ok(Head::End);
+    match read_full(reader, &mut head)? {
+        0 => Ok(None),
+        6 if head[5] == after => Ok(Some(decimal(&head[..5]))),
+        _ => Err(ReadError::CutShort),
     }
-    if n < 6 {
-        return Ok(Head::Cut);
-    }
-    if head[5] != after {
-        return Ok(Head::Cut);
-    }
-    Ok(Head::Of(length_in(&head)))
 }
 
-// The next `size` bytes, at the start of the buffer; none where it is too small.
-pub fn read_bytes<R: Read>(reader: &mut R, size: usize, buffer: &mut [u8]) -> io::Result<usize>
-    ensures { ReadsAtMost result buffer.new }
+// The byte 10 after a record's bytes.
+pub fn read_end<R: Read>(reader: &mut R) -> Result<(), ReadError>
+    ensures ok { OnOk result (Consumes (R.remaining reader.old) (R.remaining reader.new) (10 ∷ [])) }
+    ensures cut_short { IsErrOf result ReadError.CutShort → IfSome (R.remaining reader.old) (λ xs. ¬ BeginsWithEnd xs) }
 {
-    if size > buffer.len() {
-        return Ok(0);
-    }
-    read_full(reader, &mut buffer[..size])
-}
-
-// Is the next byte a 10?
-pub fn read_end<R: Read>(reader: &mut R) -> io::Result<bool> {
     let mut end = [0u8; 1];
-    if read_full(reader, &mut end)? < 1 {
-        return Ok(false);
+    match read_full(reader, &mut end)? {
+        1 if end[0] == b'\n' => Ok(()),
+        _ => Err(ReadError::CutShort),
     }
-    Ok(end[0] == b'\n')
 }
 
-pub fn print_number(rt: &impl Print, n: u64, after: &str) -> io::Result<()> {
-    print!(rt; "{n}{after}")
-}
-
-// 1 for a word that is not `due`.
-fn wrong_word(word: u32, due: u32) -> u64
-    ensures { result ≡ wrong_word due word }
+// The next record's bytes, at most `longest`; none at the input's end.
+pub fn read_record<R: Read>(
+    reader: &mut R,
+    alloc: Global,
+    longest: usize,
+) -> Result<Option<Vec<u8>>, ReadError>
+    ensures ok { IfOk result (λ found. MatchOption found (IsAtEnd (R.remaining reader.old))
+        (λ bytes. ReadsRecord (R.remaining reader.old) (R.remaining reader.new) bytes.items)) }
+    ensures longest { IfOk result (λ found. IfSome found (λ bytes. vec_len bytes ≤ longest)) }
+    ensures cut_short { IsErrOf result ReadError.CutShort → IfSome (R.remaining reader.old) (λ xs. ¬ BeginsWithRecord longest xs) }
 {
-    if word == due { 0 } else { 1 }
+    let Some(size) = read_head(reader, b'\n')? else {
+        return Ok(None);
+    };
+    let bytes = read_bytes(reader, alloc, size, longest)?;
+    read_end(reader)?;
+    Ok(Some(bytes))
 }
 
-// How many of the words from `from` on are not `due`.
-fn count_wrong(words: &[u32], from: usize, due: u32) -> u64
-    ensures { result ≡ wrong_in due (drop from words.now) }
-{
-    let mut wrong: u64 = 0;
-    let mut i = from;
-    while i < words.len() {
-        wrong += wrong_word(words[i], due);
-        i += 1;
+// The records of an input, one after another.
+#[derive(Drop)]
+pub struct Records<R> {
+    input: R,
+    alloc: Global,
+    longest: usize,
+    turns: u64,
+}
+
+impl<R> Records<R> {
+    // None is to have more bytes than `longest`. Nothing says that an input ends, so the records are counted down.
+    pub fn new(alloc: Global, input: R, longest: usize) -> Records<R>
+        ensures input { records_input result ≡ input }
+        ensures longest { records_longest result ≡ longest }
+        ensures left { records_left result ≡ 2 ^ 64 - 1 }
+    {
+        Records {
+            input,
+            alloc,
+            longest,
+            turns: u64::MAX,
+        }
     }
-    wrong
+}
+
+impl<R: Read> Iterator for Records<R>
+where
+    R: Drop,
+{
+    type Item = Result<Vec<u8>, ReadError>;
+
+    ghost next_gives = { λ s r t. (records_longest t ≡ records_longest s)
+        × MatchOption r (0 < records_left s → IsAtEnd (R.remaining (records_input s))) (λ item.
+        IfOk item (λ bytes. ReadsRecord (R.remaining (records_input s)) (R.remaining (records_input t)) bytes.items)
+        × (IsErrOf item CutShort
+        → IfSome (R.remaining (records_input s)) (λ xs. ¬ BeginsWithRecord (records_longest s) xs))) };
+
+    ghost remaining = { λ s. at_most (records_left s) };
+
+    fn next(&mut self) -> Option<Result<Vec<u8>, ReadError>> {
+        self.turns = self.turns.checked_sub(1)?;
+        read_record(&mut self.input, self.alloc, self.longest).transpose()
+    }
+}
+
+// Prints the index of a record that is cut short, if that is why reading came to an end.
+pub fn print_cut_short(rt: &impl Print, index: usize, read: Result<(), ReadError>) -> io::Result<()>
+    ensures ok { IsOk read → IsOk result }
+    ensures io { (e : _) → read ≡ Err (ReadError.Io e) → result ≡ Err e }
+{
+    match read {
+        Ok(()) => Ok(()),
+        Err(ReadError::CutShort) => println!(rt; "{index} is cut short"),
+        Err(ReadError::Io(e)) => Err(e),
+    }
+}
+
+// A refusal, printed as its number and its place.
+#[derive(Clone, Copy)]
+pub struct Refusal(pub CompileError);
+
+impl Refusal {
+    pub fn number(self) -> u32
+        ensures { result ≡ number self.0.kind }
+    {
+        error_number(self.0.kind)
+    }
+}
+
+impl fmt::Display for Refusal {
+    fn fmt<W: fmt::Write>(&self, f: &mut fmt::Formatter<W>) -> fmt::Result {
+        let number = self.number();
+        let loc = self.0.loc;
+        write!(
+            f,
+            "{number},{},{},{},{}",
+            loc.start, loc.end, loc.line, loc.column
+        )
+    }
+}
+
+// How many listings there were, how many were accepted, and how many words of work are not what is due.
+#[derive(Clone, Copy, Default)]
+pub struct Tally {
+    pub listings: usize,
+    pub accepted: usize,
+    pub wrong: usize,
+}
+
+impl Tally {
+    // With one more listing. The counts stop at the largest number.
+    pub fn add(&mut self, is_accepted: bool, wrong: usize)
+        ensures listings { self.new.listings ≡ min (self.old.listings + 1) (2 ^ 64 - 1) }
+        ensures accepted { self.new.accepted ≡ min (self.old.accepted + (if is_accepted then 1 else 0)) (2 ^ 64 - 1) }
+        ensures wrong { self.new.wrong ≡ min (self.old.wrong + wrong) (2 ^ 64 - 1) }
+    {
+        self.listings = self.listings.saturating_add(1);
+        self.accepted = self.accepted.saturating_add(usize::from(is_accepted));
+        self.wrong = self.wrong.saturating_add(wrong);
+    }
+}
+
+impl fmt::Display for Tally {
+    fn fmt<W: fmt::Write>(&self, f: &mut fmt::Formatter<W>) -> fmt::Result {
+        write!(
+            f,
+            "{} listings, {} accepted, {} words of work wrong",
+            self.listings, self.accepted, self.wrong
+        )
+    }
+}
+
+// How many of the words are not `due`.
+fn count_wrong(words: &[u32], due: u32) -> usize
+    ensures value { result ≡ wrong_in due words.now }
+    ensures bound { result ≤ length words.now }
+{
+    words.iter().filter(|word| **word != due).count()
 }
 
 // How many of the words were touched.
-pub fn touched(work: &[u32; 16400]) -> u64
+pub fn touched(work: &[u32; 16400]) -> usize
     ensures { result ≡ wrong_in 7 work.now }
 {
-    count_wrong(work, 0, FILLED)
+    count_wrong(work, FILLED)
 }
 
 // How many of the words past the 16384 that are asked were touched.
-pub fn touched_past(work: &[u32; 16400]) -> u64
+pub fn touched_past(work: &[u32; 16400]) -> usize
     ensures { result ≡ wrong_in 7 (drop 16384 work.now) }
 {
-    count_wrong(work, 16384, FILLED)
+    let (_, past) = work.split_at(ASKED);
+    count_wrong(past, FILLED)
 }
 
 // How many of the 16384 words that are asked are not zero.
-pub fn not_cleared(work: &[u32; 16400]) -> u64
+pub fn not_cleared(work: &[u32; 16400]) -> usize
     ensures { result ≡ wrong_in 0 (take 16384 work.now) }
 {
-    let words = &work[..];
-    count_wrong(&words[..16384], 0, 0)
+    let (asked, _) = work.split_at(ASKED);
+    count_wrong(asked, 0)
 }
 
 // How many words are not as Check leaves them: 16384 are zero, and those past them untouched.
-pub fn wrong_words(work: &[u32; 16400]) -> u64
+pub fn wrong_words(work: &[u32; 16400]) -> usize
     ensures { result ≡ wrong_in 0 (take 16384 work.now) + wrong_in 7 (drop 16384 work.now) }
 {
-    let words = &work[..];
-    count_wrong(&words[..16384], 0, 0) + count_wrong(words, 16384, FILLED)
+    let (asked, past) = work.split_at(ASKED);
+    count_wrong(asked, 0) + count_wrong(past, FILLED)
 }

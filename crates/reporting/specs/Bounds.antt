@@ -1,12 +1,7 @@
--- How long the texts of a report can be, so that a position in one can be counted.
-use Rattle.std.specs.Prelude.{ℕ, List, [], ◌∷◌, ◌++◌}
-use Rattle.output.specs.Decimal.{decimal}
-use Rattle.reporting.specs.Text.{report_line}
+-- How long the texts of a report can be.
+use Rattle.std.specs.Prelude.{ℕ}
 
 -- two fields with numbers
-abbrev pub pair : ℕ → ℕ → List ℕ
-pair a b = (44 ∷ decimal a) ++ (44 ∷ decimal b)
-
 abbrev pub pair_bound : ℕ
 pair_bound = 22
 
@@ -41,10 +36,6 @@ wait_bound = 24
 -- 1024 waits
 abbrev pub waits_bound : ℕ
 waits_bound = 24576
-
--- A and a number
-abbrev pub head_line : ℕ → List ℕ
-head_line n = report_line 65 (decimal n ∷ [])
 
 abbrev pub head_bound : ℕ
 head_bound = 13

@@ -1,8 +1,9 @@
 // Lines kept as rows of lent work memory.
 #![tactic(auto)]
 
-ghost use Rattle.std.specs.Prelude.{◌≡◌, ◌≤◌, length};
-ghost use Rattle.rows.specs.Rows.{place_in, signed_in, part_in, row_in, HasRow};
+ghost use Rattle.std.specs.Prelude.{◌≡◌, ◌*◌, ◌≤◌, length};
+ghost use Rattle.std.proofs.lemmas.List.Edits.{sets};
+ghost use Rattle.rows.specs.Rows.{place_in, signed_in, part_in, row_in, row_words, words_of, HasRow};
 ghost use Rattle.rows.specs.Work.{work_words, cleared};
 
 use ast::{Location, Signed};
@@ -12,7 +13,7 @@ use text::Place;
 pub const ROW_WORDS: usize = 9;
 
 // The letter of a line's form, its location, and up to four more fields.
-#[derive(Clone, Copy)]
+#[derive(Clone, Copy, PartialEq, Eq)]
 pub struct Words {
     pub kind: u32,
     pub start: u32,
@@ -73,14 +74,28 @@ pub fn row_in(table: &[u32], i: usize) -> Words
     }
 }
 
+// The row numbered i (from 0) of a table, stored.
+#[tactic(auto, unfolding(crate::specs::Rows::words_of))]
+pub fn store_row(table: &mut [u32], i: usize, r: Words)
+    requires { HasRow table.old i }
+    ensures { table.new ≡ sets table.old (i * row_words) (words_of r) }
+{
+    let first = i * ROW_WORDS;
+    table[first] = r.kind;
+    table[first + 1] = r.start;
+    table[first + 2] = r.end;
+    table[first + 3] = r.line;
+    table[first + 4] = r.column;
+    table[first + 5] = r.a;
+    table[first + 6] = r.b;
+    table[first + 7] = r.c;
+    table[first + 8] = r.d;
+}
+
 // The first 16384 words zero, the rest unchanged.
 pub fn clear(work: &mut [u32])
     requires { work_words ≤ length work.old }
     ensures { work.new ≡ cleared work.old }
 {
-    let mut i: usize = 0;
-    while i < 16384 {
-        work[i] = 0;
-        i += 1;
-    }
+    work[..16384].fill(0);
 }

@@ -3,142 +3,65 @@
 #![tactic(auto)]
 
 use anyhow::{Context, Result};
-use ast::CompileError;
-use records::{FILLED, Head, print_number, read_bytes, read_end, read_head, wide, wrong_words};
+use records::{FILLED, ReadError, Records, Refusal, Tally, print_cut_short, wrong_words};
 use std::fs::File;
-use std::io;
 use std::io::Read;
+use std::{fmt, io};
 use verdicts::Verdict;
 
-// What Check answered. All are 0 where it accepted.
+// No listing of a record is longer.
+const LONGEST: usize = 32768;
+
+// What Check answered.
 #[derive(Clone, Copy)]
 struct Answer {
-    number: u64,
-    start: u64,
-    end: u64,
-    line: u64,
-    column: u64,
+    refusal: Option<Refusal>,
 }
 
-// How many listings were checked, how many accepted, and how many words of work are not what is due.
-#[derive(Clone, Copy)]
-struct Tally {
-    listings: u64,
-    accepted: u64,
-    wrong: u64,
-}
-
-// After a record: the tally with it; or no record was there.
-#[derive(Clone, Copy)]
-enum Step {
-    On(Tally),
-    Stop,
-}
-
-fn answer_of(r: Verdict) -> Answer {
-    match r {
-        Verdict::Accepted => Answer {
-            number: 0,
-            start: 0,
-            end: 0,
-            line: 0,
-            column: 0,
-        },
-        Verdict::Refused(e) => refusal(e),
+impl From<Verdict> for Answer {
+    fn from(verdict: Verdict) -> Answer {
+        match verdict {
+            Verdict::Accepted => Answer { refusal: None },
+            Verdict::Refused(e) => Answer {
+                refusal: Some(Refusal(e)),
+            },
+        }
     }
 }
 
-fn refusal(e: CompileError) -> Answer {
-    let kind = e.kind;
-    let loc = e.loc;
-    Answer {
-        number: wide(ast::numbers::error_number(kind)),
-        start: wide(loc.start),
-        end: wide(loc.end),
-        line: wide(loc.line),
-        column: wide(loc.column),
+impl fmt::Display for Answer {
+    fn fmt<W: fmt::Write>(&self, f: &mut fmt::Formatter<W>) -> fmt::Result {
+        match self.refusal {
+            Some(refusal) => write!(f, "{refusal}"),
+            None => write!(f, "0,0,0,0,0"),
+        }
     }
 }
 
-fn print_answer(rt: &impl Print, index: u64, a: Answer) -> io::Result<()> {
-    print_number(rt, index, ",")?;
-    print_number(rt, a.number, ",")?;
-    print_number(rt, a.start, ",")?;
-    print_number(rt, a.end, ",")?;
-    print_number(rt, a.line, ",")?;
-    print_number(rt, a.column, "\n")
-}
-
-fn accepted(a: Answer) -> u64 {
-    if a.number == 0 { 1 } else { 0 }
-}
-
-fn examine(rt: &impl Print, listing: &[u8], t: Tally) -> io::Result<Tally> {
+fn examine(rt: &impl Print, listing: &[u8], tally: &mut Tally) -> io::Result<()> {
     let mut work = [FILLED; 16400];
-    let a = answer_of(examiner::check(listing, &mut work));
-    print_answer(rt, t.listings, a)?;
-    Ok(Tally {
-        listings: t.listings.wrapping_add(1),
-        accepted: t.accepted.wrapping_add(accepted(a)),
-        wrong: t.wrong.wrapping_add(wrong_words(&work)),
-    })
+    let answer = Answer::from(examiner::check(listing, &mut work));
+    println!(rt; "{},{answer}", tally.listings)?;
+    tally.add(answer.refusal.is_none(), wrong_words(&work));
+    Ok(())
 }
 
-fn cut_short(rt: &impl Print, index: u64) -> io::Result<Step> {
-    print_number(rt, index, " is cut short\n")?;
-    Ok(Step::Stop)
-}
-
-// One record: its bytes, and the byte 10 after them.
-fn examine_record(
+fn examine_all<R: Read + Drop>(
     rt: &impl Print,
-    input: &mut impl Read,
-    size: usize,
-    t: Tally,
-) -> io::Result<Step> {
-    let mut buffer = [0u8; 32768];
-    let n = read_bytes(input, size, &mut buffer)?;
-    if n < size {
-        return cut_short(rt, t.listings);
+    listings: Records<R>,
+    tally: &mut Tally,
+) -> Result<(), ReadError> {
+    for listing in listings {
+        examine(rt, &listing?, tally)?;
     }
-    if !read_end(input)? {
-        return cut_short(rt, t.listings);
-    }
-    Ok(Step::On(examine(rt, &buffer[..n], t)?))
-}
-
-fn next_record(rt: &impl Print, input: &mut impl Read, t: Tally) -> io::Result<Step> {
-    let head = read_head(input, b'\n')?;
-    match head {
-        Head::Of(size) => examine_record(rt, input, size, t),
-        Head::End => Ok(Step::Stop),
-        Head::Cut => cut_short(rt, t.listings),
-    }
-}
-
-// All records. Nothing says that a file ends, so the turns are counted down.
-fn examine_all(rt: &impl Print, input: &mut impl Read) -> io::Result<Tally> {
-    let mut t = Tally {
-        listings: 0,
-        accepted: 0,
-        wrong: 0,
-    };
-    let mut turns: u32 = 100000;
-    while turns > 0 {
-        let Step::On(next) = next_record(rt, input, t)? else {
-            return Ok(t);
-        };
-        t = next;
-        turns -= 1;
-    }
-    Ok(t)
+    Ok(())
 }
 
 fn main(rt: HostRuntime) -> Result<()> {
-    let mut file = File::open(&rt, "listings").context("listings")?;
-    let t = examine_all(&rt, &mut file)?;
-    print_number(&rt, t.listings, " listings, ")?;
-    print_number(&rt, t.accepted, " accepted, ")?;
-    print_number(&rt, t.wrong, " words of work wrong\n")?;
+    let file = File::open(&rt, "listings").context("listings")?;
+    let mut tally = Tally::default();
+    let read = examine_all(&rt, Records::new(rt.alloc(), file, LONGEST), &mut tally);
+    print_cut_short(&rt, tally.listings, read)?;
+    println!(rt; "{tally}")?;
     Ok(())
 }

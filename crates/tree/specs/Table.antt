@@ -1,10 +1,8 @@
 -- The table of rows that stands for a listing: how many rows it has, and whether the listing ends after the last.
-use Rattle.std.specs.Prelude.{ℕ, ◌≤◌, true, false, List, ◌≡◌, ltb}
+use Rattle.std.specs.Prelude.{ℕ, ◌≤◌, true, false, List, ◌≡◌, Result, Ok, Err, ltb}
 use Rattle.rows.specs.Rows.{line_in}
 use Rattle.tree.specs.declared.Lines.{Lines}
-use Rattle.tree.specs.declared.Step.{Step}
-use Rattle.tree.specs.declared.Step.TheVariants.{Next as Onward, Refused}
-use Rattle.reader.specs.Ast.{Line, Next, found, malformed, ended}
+use Rattle.reader.specs.Ast.{CompileError, Line, Next, found, malformed, ended}
 use Rattle.reader.specs.Source.{Read, read, refused}
 use Rattle.reader.specs.Ceilings.{max_lines}
 use Rattle.reader.specs.Spells.{nth}
@@ -30,6 +28,6 @@ abbrev pub Holds : List ℕ → List ℕ → Lines → Type 0
 Holds s t n = (k : ℕ) → k ≤ max_lines → asked t n k ≡ standing (nth k 0 s)
 
 -- a reading as the code has it: the number of the next line, or the refusal
-unfoldable pub stepped : {A : Type 0} → Read A → Step
-stepped (read a q) = Onward q.index
-stepped (refused x) = Refused x
+unfoldable pub stepped : {A : Type 0} → Read A → Result ℕ CompileError
+stepped (read a q) = Ok q.index
+stepped (refused x) = Err x

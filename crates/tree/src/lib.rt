@@ -2,13 +2,13 @@
 #![tactic(auto)]
 
 ghost use Rattle.std.specs.Prelude.{◌≡◌, true, false, List, ℕ, ◌<◌, leb, eqb};
-ghost use Rattle.rows.specs.Rows.{line_in, HasRow, HasRows};
+ghost use Rattle.rows.specs.Rows.{line_in, line_of, HasRow, HasRows};
 ghost use Rattle.tree.specs.Table.{asked};
-ghost use Rattle.tree.specs.Walk.{expression_kind, block_kind, statement_kind, form_of, form_part, parts_of, has_room, below, fits_here, line_number, refusal, due_line, due, node, depth_of, finished};
+ghost use Rattle.tree.specs.Walk.{form_of, parts_of, fits_here, line_number, refusal, due_line, due, node, depth_of, deepest, finished};
 
 use ast::{CompileError, ErrorKind, Location};
 use listing::letters;
-use rows::row_in;
+use rows::{Words, row_in};
 
 // The rows that were stored: how many, and whether the listing ends after the last of them or goes on with a line of no form.
 #[derive(Clone, Copy)]
@@ -17,27 +17,17 @@ pub struct Lines {
     pub ended: bool,
 }
 
-// What a reading gives: the number of the next line, from 0, or the refusal.
-#[derive(Clone, Copy)]
-pub enum Step {
-    Next(usize),
-    Refused(CompileError),
-}
-
 // The kinds of line, by where they may stand.
-const EXPRESSION: u32 = 0;
-
-const FACTOR: u32 = 1;
-
-pub const BLOCK: u32 = 2;
-
-const STATEMENT: u32 = 3;
-
-const ITEM: u32 = 4;
-
-const DECLARATION: u32 = 5;
-
-pub const CONTRACT: u32 = 6;
+#[derive(Clone, Copy, PartialEq, Eq)]
+pub enum Kind {
+    Expression,
+    Factor,
+    Block,
+    Statement,
+    Item,
+    Declaration,
+    Contract,
+}
 
 // The ceilings.
 const MAX_LINES: usize = 1024;
@@ -60,271 +50,250 @@ pub struct Left {
     pub expressions: u32,
 }
 
+impl Left {
+    ghost use Rattle.std.specs.Prelude.{true};
+    ghost use Rattle.tree.specs.Walk.{has_room, below};
+
+    // Whether a level is left for a node of this kind.
+    fn has_room(self, kind: Kind) -> bool
+        ensures { result ≡ has_room kind self }
+    {
+        match kind {
+            Kind::Expression | Kind::Factor => 0 < self.expressions,
+            Kind::Block => 0 < self.blocks,
+            _ => true,
+        }
+    }
+
+    // The levels left for its parts.
+    fn below(self, kind: Kind) -> Left
+        requires { has_room kind self ≡ true }
+        ensures { result ≡ below kind self }
+    {
+        match kind {
+            Kind::Expression | Kind::Factor => Left {
+                expressions: self.expressions - 1,
+                ..self
+            },
+            Kind::Block => Left {
+                blocks: self.blocks - 1,
+                ..self
+            },
+            _ => self,
+        }
+    }
+}
+
 // What is asked of a line: its kind, how many parts it has, the kinds of the first and of the others, and whether it is within its own ceiling.
 #[derive(Clone, Copy)]
 pub struct Form {
-    pub kind: u32,
+    pub kind: Kind,
     pub count: u32,
-    pub first: u32,
-    pub rest: u32,
+    pub first: Kind,
+    pub rest: Kind,
     pub within: bool,
 }
 
-// Where a line of a kind is due: its form, or the refusal.
-#[derive(Clone, Copy)]
-pub enum Due {
-    Stands(Form),
-    Refused(CompileError),
-}
+impl Form {
+    ghost use Rattle.std.specs.Prelude.{true, leb};
+    ghost use Rattle.tree.specs.Walk.{form_part};
+    ghost use Rattle.tree.specs.declared.Kind.TheVariants.{Expression, Block, Statement};
 
-// The form of a line with parts of one kind, and no ceiling of its own.
-fn plain_form(kind: u32, count: u32, part: u32) -> Form
-    ensures { result ≡ record { kind = kind; count = count; first = part; rest = part; within = true } }
-{
-    Form {
-        kind,
-        count,
-        first: part,
-        rest: part,
-        within: true,
+    // A line with parts of one kind, and no ceiling of its own.
+    fn of(kind: Kind, count: u32, part: Kind) -> Form
+        ensures { result ≡ record { kind = kind; count = count; first = part; rest = part; within = true } }
+    {
+        Form {
+            kind,
+            count,
+            first: part,
+            rest: part,
+            within: true,
+        }
+    }
+
+    // An expression with operands, if any.
+    fn expression(count: u32) -> Form
+        ensures { result ≡ record { kind = Expression; count = count; first = Expression; rest = Expression; within = true } }
+    {
+        Form::of(Kind::Expression, count, Kind::Expression)
+    }
+
+    // A statement: its condition first, then blocks.
+    fn statement(count: u32) -> Form
+        ensures { result ≡ record { kind = Statement; count = count; first = Expression; rest = Block; within = true } }
+    {
+        Form {
+            rest: Kind::Block,
+            ..Form::of(Kind::Statement, count, Kind::Expression)
+        }
+    }
+
+    // The same with a ceiling of its own: n, its count or the length of its name or literal, is at most `most`.
+    fn within(self, n: u32, most: u32) -> Form
+        ensures { result ≡ record { kind = self.kind; count = self.count; first = self.first; rest = self.rest; within = leb n most } }
+    {
+        Form {
+            within: n <= most,
+            ..self
+        }
+    }
+
+    // The kind of the part numbered k, from 0.
+    fn part(self, k: u32) -> Kind
+        ensures { result ≡ form_part self k }
+    {
+        if k == 0 { self.first } else { self.rest }
     }
 }
 
-// The same with a ceiling on their count.
-fn counted_form(kind: u32, count: u32, part: u32, most: u32) -> Form
-    ensures { result ≡ record { kind = kind; count = count; first = part; rest = part; within = leb count most } }
-{
-    Form {
-        kind,
-        count,
-        first: part,
-        rest: part,
-        within: count <= most,
-    }
-}
+// By the letter of the line that a row keeps.
+impl From<Words> for Form {
+    ghost from_gives = { λ r f. f ≡ form_of (line_of r) };
 
-// The form of a line with no parts, and a ceiling on the length of its name or literal.
-fn named_form(kind: u32, len: u32, most: u32) -> Form
-    ensures { result ≡ record { kind = kind; count = 0; first = expression_kind; rest = expression_kind; within = leb len most } }
-{
-    Form {
-        kind,
-        count: 0,
-        first: EXPRESSION,
-        rest: EXPRESSION,
-        within: len <= most,
+    #[tactic(auto, unfolding(rows::specs::Rows::line_of, rows::specs::Rows::kept_as))]
+    fn from(r: Words) -> Self {
+        match r.kind {
+            letters::CONTRACT => {
+                Form::of(Kind::Contract, r.b, Kind::Declaration).within(r.b, MAX_DECLARATIONS)
+            }
+            letters::DECLARATION => {
+                Form::of(Kind::Declaration, r.a, Kind::Item).within(r.a, MAX_ITEMS)
+            }
+            letters::ITEM => Form::of(Kind::Item, 0, Kind::Expression).within(r.b, MAX_NAME),
+            letters::BLOCK => Form::of(Kind::Block, r.a, Kind::Statement),
+            letters::IF => Form::statement(if r.a == 1 { 3 } else { 2 }),
+            letters::WAIT => Form::statement(0),
+            letters::VERIFY | letters::RETURN => Form::statement(1),
+            letters::VARIABLE => Form::expression(0).within(r.b, MAX_NAME),
+            letters::NUMBER | letters::BOOLEAN => Form::expression(0),
+            letters::LITERAL => Form::expression(0).within(r.b, MAX_DIGITS),
+            letters::LOGIC | letters::COMPARE | letters::ARITHMETIC => Form::expression(2),
+            letters::UNARY | letters::HASH | letters::SIZE => Form::expression(1),
+            letters::SIGNATURES => Form::of(Kind::Expression, 1, Kind::Factor),
+            letters::SINGLE => Form::of(Kind::Factor, 2, Kind::Expression),
+            letters::MULTI => Form::of(Kind::Factor, r.b, Kind::Factor).within(r.b, MAX_FACTORS),
+            _ => Form::of(Kind::Block, 0, Kind::Statement),
+        }
     }
-}
-
-// The form of a statement: its condition first, then blocks.
-fn statement_form(count: u32) -> Form
-    ensures { result ≡ record { kind = statement_kind; count = count; first = expression_kind; rest = block_kind; within = true } }
-{
-    Form {
-        kind: STATEMENT,
-        count,
-        first: EXPRESSION,
-        rest: BLOCK,
-        within: true,
-    }
-}
-
-// How many parts an if has, by the word that says whether it has an else.
-fn if_parts(e: u32) -> u32
-    ensures { result ≡ elim (eqb e 1) [ true ↦ 3 | false ↦ 2 ] }
-{
-    if e == 1 { 3 } else { 2 }
-}
-
-// The form of the line that row i keeps, by its letter.
-fn form_at(table: &[u32], i: usize) -> Form
-    requires { HasRow table.now i }
-    ensures { result ≡ form_of (line_in table.now i) }
-{
-    let r = row_in(table, i);
-    let letter = r.kind;
-    match letter {
-        letters::CONTRACT => counted_form(CONTRACT, r.b, DECLARATION, MAX_DECLARATIONS),
-        letters::DECLARATION => counted_form(DECLARATION, r.a, ITEM, MAX_ITEMS),
-        letters::ITEM => named_form(ITEM, r.b, MAX_NAME),
-        letters::BLOCK => plain_form(BLOCK, r.a, STATEMENT),
-        letters::IF => statement_form(if_parts(r.a)),
-        letters::WAIT => statement_form(0),
-        letters::VERIFY => statement_form(1),
-        letters::RETURN => statement_form(1),
-        letters::VARIABLE => named_form(EXPRESSION, r.b, MAX_NAME),
-        letters::NUMBER => plain_form(EXPRESSION, 0, EXPRESSION),
-        letters::BOOLEAN => plain_form(EXPRESSION, 0, EXPRESSION),
-        letters::LITERAL => named_form(EXPRESSION, r.b, MAX_DIGITS),
-        letters::LOGIC => plain_form(EXPRESSION, 2, EXPRESSION),
-        letters::COMPARE => plain_form(EXPRESSION, 2, EXPRESSION),
-        letters::ARITHMETIC => plain_form(EXPRESSION, 2, EXPRESSION),
-        letters::UNARY => plain_form(EXPRESSION, 1, EXPRESSION),
-        letters::HASH => plain_form(EXPRESSION, 1, EXPRESSION),
-        letters::SIZE => plain_form(EXPRESSION, 1, EXPRESSION),
-        letters::SIGNATURES => plain_form(EXPRESSION, 1, FACTOR),
-        letters::SINGLE => plain_form(FACTOR, 2, EXPRESSION),
-        letters::MULTI => counted_form(FACTOR, r.b, FACTOR, MAX_FACTORS),
-        _ => plain_form(BLOCK, 0, STATEMENT),
-    }
-}
-
-// The kind of the part numbered k, from 0.
-fn part_kind(form: Form, k: u32) -> u32
-    ensures { result ≡ form_part form k }
-{
-    if k == 0 { form.first } else { form.rest }
-}
-
-// Whether a level is left for a node of this kind.
-fn has_room(kind: u32, left: Left) -> bool
-    ensures { result ≡ has_room kind left }
-{
-    if kind < BLOCK {
-        return 0 < left.expressions;
-    }
-    if kind == BLOCK {
-        return 0 < left.blocks;
-    }
-    true
-}
-
-// The levels left for its parts.
-fn levels_below(kind: u32, left: Left) -> Left
-    requires { has_room kind left ≡ true }
-    ensures { result ≡ below kind left }
-{
-    if kind < BLOCK {
-        return Left {
-            blocks: left.blocks,
-            expressions: left.expressions - 1,
-        };
-    }
-    if kind == BLOCK {
-        return Left {
-            blocks: left.blocks - 1,
-            expressions: left.expressions,
-        };
-    }
-    left
 }
 
 // The number, from 1, of the line numbered i from 0. No line past the one after the last allowed is asked for.
+#[tactic(auto, unfolding(crate::specs::Walk::line_number))]
 fn line_number(i: usize) -> u32
     ensures { result ≡ line_number i }
 {
-    if i < MAX_LINES { (i + 1) as u32 } else { 1025 }
+    (i.min(MAX_LINES) + 1) as u32
 }
 
 // A refusal at the line numbered i, from 0.
 fn refuse(kind: ErrorKind, i: usize) -> CompileError
     ensures { result ≡ refusal kind i }
 {
-    let line = line_number(i);
-    CompileError {
-        loc: Location {
-            start: 0,
-            end: 0,
-            line,
-            column: 0,
-        },
-        kind,
-    }
+    let place = Location {
+        start: 0,
+        end: 0,
+        line: line_number(i),
+        column: 0,
+    };
+    CompileError::new(kind, place)
 }
 
 // Whether a line of the kind that is due passes no ceiling.
-fn fits_here(form: Form, i: usize, kind: u32, left: Left) -> bool
+#[tactic(auto, unfolding(crate::specs::Walk::fits_here))]
+fn fits_here(form: Form, i: usize, kind: Kind, left: Left) -> bool
     ensures { result ≡ fits_here kind left i form }
 {
-    if !has_room(kind, left) {
-        return false;
-    }
-    if MAX_LINES <= i {
-        return false;
-    }
-    form.within
+    left.has_room(kind) && i < MAX_LINES && form.within
 }
 
 // A line where one of this kind is due: 3, then 4.
-fn due_line(form: Form, i: usize, kind: u32, left: Left) -> Due
+#[tactic(auto, unfolding(crate::specs::Walk::due_line))]
+fn due_line(form: Form, i: usize, kind: Kind, left: Left) -> Result<Form, CompileError>
     ensures { result ≡ due_line kind left i form }
 {
     if form.kind != kind {
-        return Due::Refused(refuse(ErrorKind::UnexpectedLine, i));
+        return Err(refuse(ErrorKind::UnexpectedLine, i));
     }
-    if fits_here(form, i, kind, left) {
-        return Due::Stands(form);
+    if !fits_here(form, i, kind, left) {
+        return Err(refuse(ErrorKind::CeilingPassed, i));
     }
-    Due::Refused(refuse(ErrorKind::CeilingPassed, i))
+    Ok(form)
 }
 
 // What stands as the line numbered i, where one of this kind is due: 2, 3, 4 in this order.
-fn line_due(table: &[u32], lines: Lines, i: usize, kind: u32, left: Left) -> Due
+#[tactic(auto, unfolding(crate::specs::Walk::due, crate::specs::Table::asked, rows::specs::Rows::line_in))]
+fn line_due(
+    table: &[u32],
+    lines: Lines,
+    i: usize,
+    kind: Kind,
+    left: Left,
+) -> Result<Form, CompileError>
     requires { HasRows table.now lines.count }
     ensures { result ≡ due kind left i (asked table.now lines i) }
 {
     if i < lines.count {
-        return due_line(form_at(table, i), i, kind, left);
+        return due_line(Form::from(row_in(table, i)), i, kind, left);
     }
     if lines.ended {
-        Due::Refused(refuse(ErrorKind::UnexpectedLine, i))
+        Err(refuse(ErrorKind::UnexpectedLine, i))
     } else {
-        Due::Refused(refuse(ErrorKind::MalformedLine, i))
+        Err(refuse(ErrorKind::MalformedLine, i))
     }
 }
 
 // Nothing may follow: 2 or 3.
-pub fn read_end(lines: Lines, i: usize) -> Step
+#[tactic(auto, unfolding(crate::specs::Walk::finished, crate::specs::Table::asked))]
+pub fn read_end(lines: Lines, i: usize) -> Result<usize, CompileError>
     ensures { (t : List ℕ) → result ≡ finished i (asked t lines i) }
 {
     if i < lines.count {
-        return Step::Refused(refuse(ErrorKind::UnexpectedLine, i));
+        return Err(refuse(ErrorKind::UnexpectedLine, i));
     }
-    if lines.ended {
-        return Step::Next(i);
+    if !lines.ended {
+        return Err(refuse(ErrorKind::MalformedLine, i));
     }
-    Step::Refused(refuse(ErrorKind::MalformedLine, i))
+    Ok(i)
 }
 
 // A node of this kind, from the line numbered i on.
 #[cycle(read_node_read_parts)]
-fn read_node(table: &[u32], lines: Lines, i: usize, kind: u32, left: Left) -> Step
+#[tactic(auto, using(crate::proofs::Walk::walk_steps))]
+fn read_node(
+    table: &[u32],
+    lines: Lines,
+    i: usize,
+    kind: Kind,
+    left: Left,
+) -> Result<usize, CompileError>
     requires { HasRows table.now lines.count }
     ensures { (f : ℕ) → depth_of kind left < f → result ≡ node f table.now lines left kind i }
 {
-    let next = line_due(table, lines, i, kind, left);
-    match next {
-        Due::Stands(form) => {
-            let after = i + 1;
-            if form.count == 0 {
-                return Step::Next(after);
-            }
-            read_parts(table, lines, after, form, levels_below(kind, left))
-        }
-        Due::Refused(x) => Step::Refused(x),
+    let form = line_due(table, lines, i, kind, left)?;
+    let after = i + 1;
+    if form.count == 0 {
+        return Ok(after);
     }
+    read_parts(table, lines, after, form, left.below(kind))
 }
 
 // The parts of a line of this form, from the line numbered i on.
 #[cycle(read_node_read_parts)]
-pub fn read_parts(table: &[u32], lines: Lines, i: usize, form: Form, left: Left) -> Step
+#[tactic(auto, using(crate::proofs::Walk::walk_steps))]
+pub fn read_parts(
+    table: &[u32],
+    lines: Lines,
+    i: usize,
+    form: Form,
+    left: Left,
+) -> Result<usize, CompileError>
     requires { HasRows table.now lines.count }
-    ensures { (f : ℕ) → ((m : ℕ) → depth_of (form_part form m) left < f) → result ≡ parts_of (node f table.now lines left) form i }
+    ensures { (f : ℕ) → deepest form left < f → result ≡ parts_of (node f table.now lines left) form i }
 {
-    let count = form.count;
     let mut next = i;
-    let mut k: u32 = 0;
-    while k < count {
-        let part = read_node(table, lines, next, part_kind(form, k), left);
-        match part {
-            Step::Next(j) => {
-                next = j;
-            }
-            Step::Refused(x) => {
-                return Step::Refused(x);
-            }
-        }
-        k += 1;
+    for k in 0..form.count {
+        next = read_node(table, lines, next, form.part(k), left)?;
     }
-    Step::Next(next)
+    Ok(next)
 }

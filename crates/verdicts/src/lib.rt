@@ -1,22 +1,20 @@
 // The answer to what the rules found, and its text.
 #![tactic(auto)]
 
-ghost use Rattle.std.specs.Prelude.{◌≡◌, ◌≤◌, length};
+ghost use Rattle.std.specs.Prelude.{◌≡◌, length};
 ghost use Rattle.ast.specs.Tree.{fault, unplaced};
 ghost use Rattle.rules.specs.Result.{ok, err};
-ghost use Rattle.reader.specs.Ceilings.{max_bytes};
-ghost use Rattle.tables.specs.State.{Ready};
 ghost use Rattle.reporting.specs.Text.{text_of};
-ghost use Rattle.reporting.specs.Waits.{RowsBetween, analysis_in};
+ghost use Rattle.reporting.specs.Analyzed.{analysis_of, IsAnalyzed};
 ghost use Rattle.verdicts.specs.declared.Verdict.{Verdict};
 ghost use Rattle.verdicts.specs.Verdicts.{verdict_in};
 ghost use Rattle.verdicts.specs.Reports.{reported, written};
 
 use ast::numbers::error_from;
 use ast::{CompileError, ErrorKind, KindFound, Location, unplaced};
-use declarations::Declared;
-use paths::NamePlace;
-use reporting::{has_room, put_acceptance, put_refusal};
+use output::{Counter, Writer};
+use reporting::analyzed::Analyzed;
+use reporting::put_refusal;
 use tables::slots;
 
 // What Check answers.
@@ -70,37 +68,32 @@ pub fn report_refusal(output: &mut [u8], x: CompileError) -> Reported
     ensures value { result ≡ reported (err x) (length output.old) }
     ensures output_after { output.new ≡ written (text_of (err x)) output.old }
 {
-    let n = put_refusal(output, false, 0, x);
-    if output.len() < n {
+    let mut counter = Counter { length: 0 };
+    put_refusal(&mut counter, x);
+    if output.len() < counter.length {
         return without_text(ErrorKind::OutputTooShort);
     }
-    put_refusal(output, true, 0, x);
+    let mut writer = Writer { output, at: 0 };
+    put_refusal(&mut writer, x);
     Reported {
         answer: Verdict::Refused(x),
-        length: n,
+        length: writer.at,
     }
 }
 
-// An acceptance, of n rows, and its text, if output has room for it.
-pub fn report_acceptance(
-    listing: &[u8],
-    table: &[u32],
-    n: usize,
-    d: Declared,
-    rows: [[NamePlace; 32]; 32],
-    taken: &[u32; 32],
-    output: &mut [u8],
-) -> Reported
-    requires { Ready listing.now table.now d rows taken.now × (length listing.now ≤ max_bytes) × RowsBetween table.now d.block n }
-    ensures value { result ≡ reported (ok (analysis_in listing.now table.now n d rows taken.now)) (length output.old) }
-    ensures output_after { output.new ≡ written (text_of (ok (analysis_in listing.now table.now n d rows taken.now))) output.old }
+// An acceptance and its text, if output has room for it.
+pub fn report_acceptance(analyzed: &Analyzed<'_>, output: &mut [u8]) -> Reported
+    requires { IsAnalyzed analyzed.now }
+    ensures value { result ≡ reported (ok (analysis_of analyzed.now)) (length output.old) }
+    ensures output_after { output.new ≡ written (text_of (ok (analysis_of analyzed.now))) output.old }
 {
-    if !has_room(listing, table, n, d, rows, taken, output) {
+    if !analyzed.has_room(output) {
         return without_text(ErrorKind::OutputTooShort);
     }
-    let size = put_acceptance(listing, table, n, d, rows, taken, output, true, 0);
+    let mut writer = Writer { output, at: 0 };
+    analyzed.put_acceptance(&mut writer);
     Reported {
         answer: Verdict::Accepted,
-        length: size,
+        length: writer.at,
     }
 }

@@ -2,140 +2,83 @@
 #![tactic(auto)]
 
 ghost use Rattle.std.specs.Prelude.{◌≡◌, ◌≤◌, length};
-ghost use Rattle.text.specs.declared.WordRead.{WordRead};
-ghost use Rattle.text.specs.declared.LocationRead.{LocationRead};
-ghost use Rattle.text.specs.Text.{read_at, is_digit, digits, capped, word, index, location};
+ghost use Rattle.text.specs.Text.{read, digits, capped, word, index, location};
 
 use ast::Location;
-use text::{COMMA, LocationRead, Skipped, WordRead, is_digit, skip, wide};
+use text::{COMMA, Cursor, is_digit};
 
 const MAX_WORD: u64 = 4294967295;
 
-// The digits from `at` on, after the number `first`, as a number of 32 bits. Ten times such a number and a digit fit 64 bits.
-fn word_digits(listing: &[u8], at: usize, first: u64) -> WordRead
-    requires { first ≤ 4294967295 }
-    ensures { result ≡ read_at WordRead.Got WordRead.Failed (capped 4294967295 (digits first)) listing.now at }
+// The digits from here on, after the number `first`, as a number of 32 bits. Ten times such a number and a digit fit 64 bits, so no sum is tested for its
+// fit, as `decimals` has to.
+fn word_digits(c: Cursor, first: u64) -> Option<(u32, Cursor)>
+    requires { (c.at ≤ length c.listing.now) × (first ≤ 4294967295) }
+    ensures { result ≡ read (capped 4294967295 (digits first)) c.entry }
 {
     let mut v = first;
-    let mut i = at;
-    while i < listing.len() {
-        let b = listing[i];
+    for at in c.at..c.listing.len() {
+        let b = c.listing[at];
         if !is_digit(b) {
-            return WordRead::Got(v as u32, i);
+            return Some((v as u32, Cursor { at, ..c }));
         }
-        v = v * 10 + (wide(b) - 48);
-        if MAX_WORD < v {
-            return WordRead::Failed;
+        v = v * 10 + u64::from(b - b'0');
+        if v > MAX_WORD {
+            return None;
         }
-        i += 1;
     }
-    WordRead::Got(v as u32, i)
+    Some((
+        v as u32,
+        Cursor {
+            at: c.listing.len(),
+            ..c
+        },
+    ))
 }
 
 // A field that is a number of 32 bits.
-pub fn read_word(listing: &[u8], at: usize) -> WordRead
-    ensures { result ≡ read_at WordRead.Got WordRead.Failed word listing.now at }
+pub fn read_word(c: Cursor) -> Option<(u32, Cursor)>
+    ensures { result ≡ read word c.entry }
 {
-    let Skipped::To(n) = skip(listing, at, COMMA) else {
-        return WordRead::Failed;
+    let start = c.skip(COMMA)?;
+    let first = *start.listing.get(start.at)?;
+    let next = Cursor {
+        at: start.at + 1,
+        ..start
     };
-    if listing.len() <= n {
-        return WordRead::Failed;
-    }
-    let first = listing[n];
-    if first == 48 {
-        return WordRead::Got(0, n + 1);
+    if first == b'0' {
+        return Some((0, next));
     }
     if is_digit(first) {
-        return word_digits(listing, n + 1, wide(first) - 48);
+        return word_digits(next, u64::from(first - b'0'));
     }
-    WordRead::Failed
+    None
 }
 
 // A field that is an enum number below `count`.
-pub fn read_index(listing: &[u8], at: usize, count: u32) -> WordRead
-    ensures { result ≡ read_at WordRead.Got WordRead.Failed (index count) listing.now at }
+#[tactic(auto, using(crate::proofs::Words::read_index_is))]
+pub fn read_index(c: Cursor, count: u32) -> Option<(u32, Cursor)>
+    ensures { result ≡ read (index count) c.entry }
 {
-    let WordRead::Got(v, n) = read_word(listing, at) else {
-        return WordRead::Failed;
-    };
-    if v < count {
-        return WordRead::Got(v, n);
-    }
-    WordRead::Failed
-}
-
-// Whether a number is a digit's byte, asked of 64 bits so that what it stands for is computed once.
-fn is_wide_digit(b: u64) -> bool
-    ensures { result ≡ is_digit b }
-{
-    if b < 48 {
-        return false;
-    }
-    b <= 57
-}
-
-// A field that is a number of 32 bits, as `read_word` reads it: up to four digits without asking for each whether the listing goes on. It has one caller, so that it is inlined there.
-fn short_word(listing: &[u8], at: usize) -> WordRead
-    requires { at ≤ length listing.now }
-    ensures { result ≡ read_at WordRead.Got WordRead.Failed word listing.now at }
-{
-    if listing.len() - at < 6 {
-        return read_word(listing, at);
-    }
-    if listing[at] != COMMA {
-        return WordRead::Failed;
-    }
-    let a = wide(listing[at + 1]);
-    if a == 48 {
-        return WordRead::Got(0, at + 2);
-    }
-    if !is_wide_digit(a) {
-        return WordRead::Failed;
-    }
-    let ones = a - 48;
-    let b = wide(listing[at + 2]);
-    if !is_wide_digit(b) {
-        return WordRead::Got(ones as u32, at + 2);
-    }
-    let tens = ones * 10 + (b - 48);
-    let c = wide(listing[at + 3]);
-    if !is_wide_digit(c) {
-        return WordRead::Got(tens as u32, at + 3);
-    }
-    let hundreds = tens * 10 + (c - 48);
-    let d = wide(listing[at + 4]);
-    if !is_wide_digit(d) {
-        return WordRead::Got(hundreds as u32, at + 4);
-    }
-    word_digits(listing, at + 5, hundreds * 10 + (d - 48))
+    let (v, c) = read_word(c)?;
+    if v < count { Some((v, c)) } else { None }
 }
 
 // w: start, end, line, column.
-pub fn read_location(listing: &[u8], at: usize) -> LocationRead
-    ensures { result ≡ read_at LocationRead.Got LocationRead.Failed location listing.now at }
+#[tactic(auto, using(crate::proofs::Words::read_location_is))]
+pub fn read_location(c: Cursor) -> Option<(Location, Cursor)>
+    ensures { result ≡ read location c.entry }
 {
-    if listing.len() < at {
-        return LocationRead::Failed;
-    }
-    let mut words: [u32; 4] = [0; 4];
-    let mut next = at;
-    let mut k: usize = 0;
-    while k < 4 {
-        let WordRead::Got(v, n) = short_word(listing, next) else {
-            return LocationRead::Failed;
-        };
-        words[k] = v;
-        next = n;
-        k += 1;
-    }
-    LocationRead::Got(
+    let (start, c) = read_word(c)?;
+    let (end, c) = read_word(c)?;
+    let (line, c) = read_word(c)?;
+    let (column, c) = read_word(c)?;
+    Some((
         Location {
-            start: words[0],
-            end: words[1],
-            line: words[2],
-            column: words[3],
+            start,
+            end,
+            line,
+            column,
         },
-        next,
-    )
+        c,
+    ))
 }

@@ -1,35 +1,24 @@
-use Prim.Native.Nat.{◌+◌, ◌-◌}
-use native.Mathlib.Omega.{arith}
-use mathlib.Core.Path.{sym, ap, ◌∙◌}
-use lib.ListN.{drop}
-use Rattle.text.specs.Text.{digits, capped, up_to}
-use Rattle.decimals.specs.declared.DecimalRead.{DecimalRead}
-use Rattle.text.proofs.Fields.{digit-range, decimal-past, decimal-zero, decimal_digit, decimal-other}
-use Rattle.text.proofs.Told.{answer-got, answer-failed, answer-same}
+use Rattle.std.proofs.Common.{sym, ap, ◌∙◌}
+use Rattle.text.specs.Text.{is_digit}
+use Rattle.text.proofs.Fields.{digit-range}
+use Rattle.text.proofs.Cursors.{up_to-past, up_to-zero, up_to_digit, up_to-other}
 use Rattle.decimals.proofs.read_decimal.Goals as goal
 
-pub returns-then-listing-at : goal.returns-then-listing-at
-returns-then-listing-at c =
-    let a = c.args in
-    answer-failed DecimalRead.Got DecimalRead.Failed (up_to a.limit) a.listing.now a.at (decimal-past a.limit a.listing.now a.at c.if-listing-at.true)
+pub returns-in_err-first-clause-value : goal.returns-in_err-first-clause-value
+returns-in_err-first-clause-value c = c.from_residual.ensures ∙ up_to-past c.args.limit c.args.c c.in_err-first.ensures.lookup.3
 
-pub returns-then-b-eq48 : goal.returns-then-b-eq48
-returns-then-b-eq48 c =
-    let a = c.args in
-    answer-got DecimalRead.Got DecimalRead.Failed (up_to a.limit) a.listing.now a.at (decimal-zero a.limit a.listing.now a.at c.if-listing-at.false c.if-b-eq48.true)
+pub returns-then-first-eq48-clause-value : goal.returns-then-first-eq48-clause-value
+returns-then-first-eq48-clause-value c = let h = c.in_ok-first.ensures.lookup.3 in up_to-zero c.args.limit c.args.c h.0 (sym (h.1 0) ∙ c.if-first-eq48.true)
 
-pub overflow_sub-wide : goal.overflow_sub-wide
-overflow_sub-wide c = omega (arith, c.wide.ensures, digit-range _ (sym c.is_digit.ensures ∙ c.if-is_digit.true))
+pub returns-then-is_digit-clause-value : goal.returns-then-is_digit-clause-value
+returns-then-is_digit-clause-value c =
+    let h = c.in_ok-first.ensures.lookup.3 in
+    c.more_digits.ensures.value ∙ rw (c.from.ensures, h.1 0) (up_to_digit c.args.limit c.args.c h.0 (λ z. c.if-first-eq48.false (h.1 0 ∙ z)) (ap is_digit (sym (h.1 0)) ∙ sym c.is_digit.ensures ∙ c.if-is_digit.true))
 
-pub returns-then-is_digit : goal.returns-then-is_digit
-returns-then-is_digit c =
-    let a = c.args in
-    let s = a.listing.now in
-    let digit = sym c.is_digit.ensures ∙ c.if-is_digit.true in
-    let same = ap (λ b. capped a.limit (digits (b - 48)) (a.at + 1) (drop (a.at + 1) s)) c.wide.ensures in
-    answer-same DecimalRead.Got DecimalRead.Failed (up_to a.limit) (capped a.limit (digits (c.wide.result - 48))) s a.at (a.at + 1) c.more_digits.ensures (decimal_digit a.limit s a.at c.if-listing-at.false c.if-b-eq48.false digit ∙ sym same)
+pub returns-clause-value : goal.returns-clause-value
+returns-clause-value c =
+    let h = c.in_ok-first.ensures.lookup.3 in
+    up_to-other c.args.limit c.args.c h.0 (λ z. c.if-first-eq48.false (h.1 0 ∙ z)) (ap is_digit (sym (h.1 0)) ∙ sym c.is_digit.ensures ∙ c.if-is_digit.false)
 
-pub returns : goal.returns
-returns c =
-    let a = c.args in
-    answer-failed DecimalRead.Got DecimalRead.Failed (up_to a.limit) a.listing.now a.at (decimal-other a.limit a.listing.now a.at c.if-listing-at.false c.if-b-eq48.false (sym c.is_digit.ensures ∙ c.if-is_digit.false))
+pub overflow_sub-first : goal.overflow_sub-first
+overflow_sub-first c = (digit-range _ (sym c.is_digit.ensures ∙ c.if-is_digit.true)).0

@@ -8,12 +8,12 @@ use Rattle.rows.specs.Rows.{row_words}
 use Rattle.reading.proofs.read_listing.Goals as goal
 
 pub returns-then-work-lt-WORK_WORDS : goal.returns-then-work-lt-WORK_WORDS
-returns-then-work-lt-WORK_WORDS c = let a = c.args in let all = read_short a.listing.now a.work.now c.refuse.result c.if-work-lt-WORK_WORDS.true c.refuse.ensures in
-    record { value = all.0; work_after = all.1.0; by_index = all.1.1 }
+returns-then-work-lt-WORK_WORDS c = let a = c.args in let all = read_short a.listing.now a.work.now _ c.if-work-lt-WORK_WORDS.true c.unplaced.ensures in
+    record { value = all.0; work_after = all.1.0; spelled = all.1.1 }
 
 pub returns-then-listing-gt-MAX_BYTES : goal.returns-then-listing-gt-MAX_BYTES
-returns-then-listing-gt-MAX_BYTES c = let a = c.args in let all = read-long a.listing.now a.work.now _ c.refuse-then-listing-gt-MAX_BYTES.result c.if-work-lt-WORK_WORDS.false c.if-listing-gt-MAX_BYTES.true c.clear.ensures c.refuse-then-listing-gt-MAX_BYTES.ensures in
-    record { value = all.0; work_after = all.1.0; by_index = all.1.1 }
+returns-then-listing-gt-MAX_BYTES c = let a = c.args in let all = read-long a.listing.now a.work.now _ _ c.if-work-lt-WORK_WORDS.false c.if-listing-gt-MAX_BYTES.true c.clear.ensures c.unplaced-then-listing-gt-MAX_BYTES.ensures in
+    record { value = all.0; work_after = all.1.0; spelled = all.1.1 }
 
 pub returns : goal.returns
 returns c =
@@ -26,4 +26,4 @@ returns c =
     let room : c.store_lines-lines.result.count * row_words ≤ work_words = omega arith in
     let done = c.read_stored.ensures s (stored-holds s w _ _ stored (omega arith)) in
     let all = read-within s w _ _ stored room long _ _ c.if-listing-gt-MAX_BYTES.false done.0 done.1 in
-    record { value = all.0; work_after = all.1.0; by_index = all.1.1 }
+    record { value = all.0; work_after = all.1.0; spelled = all.1.1 }

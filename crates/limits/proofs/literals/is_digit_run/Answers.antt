@@ -2,8 +2,7 @@ use native.Mathlib.Omega.{arith}
 use mathlib.Core.Bool.{true}
 use mathlib.Core.Logic.{◌↔◌}
 use mathlib.Core.Path.{◌≡◌}
-use Rattle.text.proofs.Every.{every-none, every_more}
-use Rattle.limits.proofs.Digits.{Pair, Pairs, pairs-spelled}
+use Rattle.limits.proofs.Digits.{every-none, every_more, Pair, Pairs, pairs-spelled}
 use Rattle.limits.proofs.literals.is_digit_run.Goals as goal
 
 pub loop-k-init : goal.loop-k-init

@@ -1,4 +1,0 @@
-use Rattle.reading.proofs.refuse.Goals as goal
-
-pub returns : goal.returns
-returns c = cc
