@@ -23,8 +23,8 @@ use Rattle.rules.specs.Analyze.{Analysis, analyze}
 use Rattle.rows.specs.Rows.{line_in, with_rows}
 use Rattle.rows.specs.Work.{work_words, cleared}
 use Rattle.rows.proofs.Laws.{clear-rows, rows-length}
-use Rattle.reading.specs.Held.{ListingRead}
-use Rattle.std.specs.Prelude.{Ok, Err}
+use Rattle.reading.specs.declared.ListingRead.{ListingRead}
+use Rattle.reading.specs.declared.ListingRead.TheVariants.{Rows, Refused}
 use Rattle.reader.specs.Source.{Read, read, refused}
 use Rattle.reader.specs.Reading.{read_listing}
 use Rattle.reader.specs.Spells.{SpellsContract, nth, lines_of, line_in as line_of}
@@ -42,30 +42,30 @@ use Rattle.examiner.specs.Lent.{work_after}
 use Rattle.examiner.specs.InOrder.{InOrder}
 use Rattle.examiner.proofs.Demand3.{examined, demand3}
 
-pub refused≢rows : {x : CompileError} {n : ℕ} → Err x ≡ Ok n → ⊥
+pub refused≢rows : {x : CompileError} {n : ℕ} → Refused x ≡ Rows n → ⊥
 refused≢rows h = let z : ◌≡◌ {A = ℕ} 0 1 = cc in omega arith
 
 -- a refusal of the reading is Check's, and leaves work as Check does
 module _ (s : List ℕ) (x : CompileError) where
-  pub check-refused : (words : ℕ) → listing_read s words ≡ Err x → Verdict.Refused x ≡ check s words
+  pub check-refused : (words : ℕ) → listing_read s words ≡ Refused x → Verdict.Refused x ≡ check s words
   unfolding listing_read rows_of check examine analyzed verdict
   check-refused words h = go (ltb words work_words) refl
     where
       reading : ltb words work_words ≡ false → (y : Read Contract) → read_listing s ≡ y → Verdict.Refused x ≡ check s words
       reading e (read c q) f = absurd (refused≢rows (sym (rw (e, f, listing_read) at h)))
       reading e (refused z) f =
-          let g : ◌≡◌ {A = ListingRead} (Err z) (Err x) = rw (e, f, listing_read) at h in
+          let g : ◌≡◌ {A = ListingRead} (Refused z) (Refused x) = rw (e, f, listing_read) at h in
           let i : x ≡ z = cc in
           rw (e, f, check, examine) (ap Verdict.Refused i)
 
       go : (b : Bool) → ltb words work_words ≡ b → Verdict.Refused x ≡ check s words
       go true e =
-          let g : ◌≡◌ {A = ListingRead} (Err (fault WorkTooShort unplaced)) (Err x) = rw (e, listing_read) at h in
+          let g : ◌≡◌ {A = ListingRead} (Refused (fault WorkTooShort unplaced)) (Refused x) = rw (e, listing_read) at h in
           let i : x ≡ fault WorkTooShort unplaced = cc in
           rw (e, check, examine) (ap Verdict.Refused i)
       go false e = reading e (read_listing s) refl
 
-  pub work-refused : (w : List ℕ) → listing_read s (length w) ≡ Err x → work_read s w ≡ work_after w
+  pub work-refused : (w : List ℕ) → listing_read s (length w) ≡ Refused x → work_read s w ≡ work_after w
   unfolding listing_read rows_of work_read work_after rows_left
   work-refused w h = go (ltb (length w) work_words) refl
     where
@@ -131,7 +131,7 @@ module _ (s w t : List ℕ) (n : ℕ) (h : Spelled s t n) where
           rw (le-ltb (length w) work_words enough, work_after) (ap cleared rows ∙ clear-rows w h.source.index (lines_of s) (omega arith))
 
 -- a listing that is read has work enough
-pub rows-enough : (s : List ℕ) (words n : ℕ) → listing_read s words ≡ Ok n → work_words ≤ words
+pub rows-enough : (s : List ℕ) (words n : ℕ) → listing_read s words ≡ Rows n → work_words ≤ words
 unfolding listing_read
 rows-enough s words n h = go (ltb words work_words) refl
   where
@@ -148,13 +148,13 @@ abbrev pub Promised : List ℕ → List ℕ → Verdict → List ℕ → Type 0
 Promised s w r t = (r ≡ check s (length w)) × ((t ≡ work_after w) × ((r ≡ Verdict.Accepted) ↔ InOrder s (length w)))
 
 module _ (s w t : List ℕ) {y : ListingRead} (answered : y ≡ listing_read s (length w)) (held : t ≡ work_read s w) where
-  pub refuses : (x : CompileError) → y ≡ Err x → Promised s w (Verdict.Refused x) t
+  pub refuses : (x : CompileError) → y ≡ Refused x → Promised s w (Verdict.Refused x) t
   refuses x e =
       let h = sym answered ∙ e in
       let r = check-refused s x (length w) h in
       (r, (held ∙ work-refused s x w h, demanded s (length w) (Verdict.Refused x) r))
 
-  module _ (n : ℕ) (e : y ≡ Ok n) (h : Spelled s t n) where
+  module _ (n : ℕ) (e : y ≡ Rows n) (h : Spelled s t n) where
     enough : work_words ≤ length w
     enough = rows-enough s (length w) n (sym answered ∙ e)
 

@@ -18,8 +18,8 @@ use Rattle.listing.proofs.OfKind.{of-kind, contract-kind}
 use Rattle.rules.specs.Analyze.{analyze}
 use Rattle.rows.specs.Rows.{line_in}
 use Rattle.rows.specs.Work.{cleared}
-use Rattle.reading.specs.Held.{ListingRead}
-use Rattle.std.specs.Prelude.{Ok, Err}
+use Rattle.reading.specs.declared.ListingRead.{ListingRead}
+use Rattle.reading.specs.declared.ListingRead.TheVariants.{Rows as RowsRead, Refused}
 use Rattle.reader.specs.Ceilings.{max_bytes, max_lines}
 use Rattle.reader.specs.Source.{Source, source, Read, read, refused}
 use Rattle.reader.specs.Reading.{item, declarations, read_listing}
@@ -153,7 +153,7 @@ abbrev pub Promised : List ℕ → List ℕ → ℕ → ℕ → Named → List �
 Promised s w path position r u = (r ≡ named s (length w) path position) × ((Inside s r.place × (r.place.at + r.place.len ≤ max_bytes)) × (u ≡ work_after w))
 
 module _ (s w t : List ℕ) (path position : ℕ) {y : ListingRead} (answered : y ≡ listing_read s (length w)) (held : t ≡ work_read s w) where
-  pub refuses : {r : Place} (x : CompileError) → y ≡ Err x → r ≡ record { at = 0; len = 0 } → Promised s w path position (record { answer = Verdict.Refused x; place = r }) t
+  pub refuses : {r : Place} (x : CompileError) → y ≡ Refused x → r ≡ record { at = 0; len = 0 } → Promised s w path position (record { answer = Verdict.Refused x; place = r }) t
   unfolding named name item_at if_accepted
   refuses {r} x e f =
       let h = sym answered ∙ e in
@@ -161,7 +161,7 @@ module _ (s w t : List ℕ) (path position : ℕ) {y : ListingRead} (answered : 
       let l : r.len ≡ 0 = ap (λ r. r.len) f in
       (named-by (item_at s path position) (check-refused s x (length w) h) (no_place f refl), ((omega arith, omega arith), held ∙ work-refused s x w h))
 
-  module _ (n : ℕ) (e : y ≡ Ok n) (h : Spelled s t n) where
+  module _ (n : ℕ) (e : y ≡ RowsRead n) (h : Spelled s t n) where
     pub names : (r : Named) (u : List ℕ) → ((c : Contract) (ps : List (List Item)) → SpellsContract (line_in t) s c n → Declares t ps → r ≡ named_by (verdict (analyze c)) (item_from ps path position)) → u ≡ cleared t → Promised s w path position r u
     unfolding named name item_at
     names r u f g =

@@ -16,8 +16,8 @@ use Rattle.rules.proofs.Theorem.{check as check_tree}
 use Rattle.rules.proofs.Demand3.{accepted-finals}
 use Rattle.rows.specs.Rows.{line_in}
 use Rattle.rows.specs.Work.{work_words, cleared}
-use Rattle.reading.specs.Held.{ListingRead}
-use Rattle.std.specs.Prelude.{Ok, Err}
+use Rattle.reading.specs.declared.ListingRead.{ListingRead}
+use Rattle.reading.specs.declared.ListingRead.TheVariants.{Refused}
 use Rattle.reader.specs.Spells.{SpellsContract}
 use Rattle.reading.specs.Held.{listing_read, work_read, Spelled}
 use Rattle.paths.specs.declared.NamePlace.{NamePlace}
@@ -91,7 +91,7 @@ verdict-refused (err y) x h = let e : y ≡ x = cc in ap err e
 
 module _ (s w t out : List ℕ) {y : ListingRead} (enough : work_words ≤ length w) (answered : y ≡ listing_read s (length w)) (held : t ≡ work_read s w) where
   -- a listing that is not read
-  pub report-refused : (x : CompileError) → y ≡ Err x → (r : Reported) (o : List ℕ) → r ≡ reported (err x) (length out) → o ≡ written (text_of (err x)) out → Promised s w out r t o
+  pub report-refused : (x : CompileError) → y ≡ Refused x → (r : Reported) (o : List ℕ) → r ≡ reported (err x) (length out) → o ≡ written (text_of (err x)) out → Promised s w out r t o
   unfolding check
   report-refused x e r o f g =
       let h = sym answered ∙ e in

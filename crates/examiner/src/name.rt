@@ -15,7 +15,7 @@ ghost use Rattle.examiner.specs.Name.{if_accepted, name_of, place_or, named, nam
 
 use crate::analyze_rows;
 use declarations::{Declared, ItemFound, declarations, item_in};
-use reading::read_listing;
+use reading::{ListingRead, read_listing};
 use text::Place;
 use verdicts::Verdict;
 
@@ -78,11 +78,11 @@ pub fn name_place(listing: &[u8], work: &mut [u32], path: u32, position: u32) ->
 {
     let read = read_listing(listing, work);
     match read {
-        Err(x) => Named {
+        ListingRead::Refused(x) => Named {
             answer: Verdict::Refused(x),
             place: no_place(),
         },
-        Ok(n) => name_in_rows(listing, work, n, path, position),
+        ListingRead::Rows(n) => name_in_rows(listing, work, n, path, position),
     }
 }
 

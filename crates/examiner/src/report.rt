@@ -15,8 +15,7 @@ ghost use Rattle.examiner.specs.Lent.{work_after, output_after};
 use analyze::analyze;
 use ast::ErrorKind;
 use declarations::{Declared, declarations};
-use reading::read_listing;
-use reporting::analyzed::Analyzed;
+use reading::{ListingRead, read_listing};
 use verdicts::{Reported, Verdict, report_acceptance, report_refusal, verdict_in, without_text};
 
 const WORK_WORDS: usize = 16384;
@@ -33,17 +32,7 @@ fn report_table(listing: &[u8], table: &[u32], n: usize, d: Declared, output: &m
     let answer = verdict_in(&out);
     match answer {
         Verdict::Refused(x) => report_refusal(output, x),
-        Verdict::Accepted => {
-            let analyzed = Analyzed {
-                listing,
-                table,
-                n,
-                declared: d,
-                rows: &held,
-                taken: &taken,
-            };
-            report_acceptance(&analyzed, output)
-        }
+        Verdict::Accepted => report_acceptance(listing, table, n, d, held, &taken, output),
     }
 }
 
@@ -72,7 +61,7 @@ pub fn report(listing: &[u8], work: &mut [u32], output: &mut [u8]) -> Reported
     }
     let read = read_listing(listing, work);
     match read {
-        Err(x) => report_refusal(output, x),
-        Ok(n) => report_rows(listing, work, output, n),
+        ListingRead::Refused(x) => report_refusal(output, x),
+        ListingRead::Rows(n) => report_rows(listing, work, output, n),
     }
 }

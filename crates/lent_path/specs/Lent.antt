@@ -4,8 +4,8 @@ use Rattle.ast.specs.declared.CompileError.{CompileError}
 use Rattle.ast.specs.declared.ErrorKind.{ErrorKind}
 use Rattle.ast.specs.Tree.{fault, unplaced, number}
 use Rattle.text.specs.Text.{part}
-use Rattle.reading.specs.Held.{ListingRead}
-use Rattle.std.specs.Prelude.{Ok, Err}
+use Rattle.reading.specs.declared.ListingRead.{ListingRead}
+use Rattle.reading.specs.declared.ListingRead.TheVariants.{Rows, Refused}
 use Rattle.rules.specs.Result.{Result, ok, err}
 use Rattle.rules.specs.Table.{Table}
 use Rattle.rules.specs.Usage.{take}
@@ -30,8 +30,8 @@ answered (err x) = record { number = number x.kind; start = x.loc.start; end = x
 
 -- the same of a listing that is read
 unfoldable pub answered_read : ListingRead → Answered
-answered_read (Ok n) = record { number = 0; start = 0; end = 0; line = 0; column = 0 }
-answered_read (Err x) = answered (err x)
+answered_read (Rows n) = record { number = 0; start = 0; end = 0; line = 0; column = 0 }
+answered_read (Refused x) = answered (err x)
 
 -- the table after a rule: the rule's, or after a refusal the one before
 unfoldable pub table_after : Result Table → Table → Table

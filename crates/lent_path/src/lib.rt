@@ -13,7 +13,7 @@ use ast::{CompileError, ErrorKind, Location, unplaced};
 use listing::letters;
 use nodes::Answer;
 use paths::{Path, Used, take};
-use reading::read_listing;
+use reading::{ListingRead, read_listing};
 use rows::{ROW_WORDS, part_in, place_in, row_in};
 use taken::is_top_run;
 use text::Place;
@@ -258,8 +258,8 @@ pub fn bithoven_rows(listing: &[u8], work: &mut [u32]) -> Answered
 {
     let r = read_listing(listing, work);
     match r {
-        Ok(_) => accepted(),
-        Err(x) => refused(x),
+        ListingRead::Rows(_) => accepted(),
+        ListingRead::Refused(x) => refused(x),
     }
 }
 

@@ -5,15 +5,17 @@ use mathlib.Core.Bool.{Bool, true, false, ◌&&◌, ◌||◌}
 use mathlib.Core.List.{List, [], ◌∷◌}
 use mathlib.Core.Logic.{◌⊎◌, inl, inr, ◌↔◌}
 use mathlib.Core.Path.{◌≡◌, refl, sym, ap, ◌∙◌}
-use lib.Dec.{leb, eqb, ltb}
+use lib.Dec.{leb, eqb}
 use lib.ListN.{length, take, drop, get_or, length-take, length-drop}
 use lib.Seq.{drop-cons}
-use borrow.Author.Tests.{ltb-true, ltb-false, leb-true, le-leb, lt-leb, eqb-true, eqb-false, eq-eqb, ne_eqb}
+use borrow.Author.Tests.{leb-true, le-leb, lt-leb, eqb-true, eqb-false, eq-eqb, ne_eqb}
+use Rattle.std.proofs.lemmas.Bool.{and_parts}
 use Rattle.text.specs.declared.Place.{Place}
 use Rattle.text.specs.Text.{within as text_within, is_digit as is_decimal, is_hex_digit, part, hex_value, unhex, bytes_of}
 use Rattle.text.proofs.Every.{Every}
+use Rattle.limits.specs.Pairs.{AllPairs}
+use Rattle.std.specs.List.{list_all}
 use Rattle.rules.specs.Keys.{within, is_digit, all_digits, is_hex, pushed}
-use Rattle.rules.proofs.Basics.{and-true}
 
 -- two digits a byte
 pub unhex-length : (l : List ℕ) → length (unhex l) ≡ length l / 2
@@ -40,32 +42,12 @@ unhex-none [] h = refl
 unhex-none (a ∷ []) h = refl
 unhex-none (a ∷ b ∷ l) h = absurd (omega arith)
 
--- whether the bytes are all hex digits: the first byte, and the rest
-module _ (s : List ℕ) (i n : ℕ) (h : i + n ≤ length s) (q : 1 < n) {b : Bool} (e : b ≡ is_digit (hex_value (get_or s i 0) * 16 + hex_value (get_or s (i + 1) 0))) where
-  pub digits_more : b ≡ true → all_digits (unhex (take (n - 2) (drop (i + 2) s))) ≡ all_digits (unhex (take n (drop i s)))
-  unfolding all_digits
-  digits_more d = rw (unhex-more s i n h q, ← e, d)
-
-  pub digits-none : b ≡ false → false ≡ all_digits (unhex (take n (drop i s)))
-  unfolding all_digits
-  digits-none d = rw (unhex-more s i n h q, ← e, d)
-
--- and back from the whole to the first byte and the rest
-digits-apart : (s : List ℕ) (i n : ℕ) → i + n ≤ length s → 1 < n → all_digits (unhex (take n (drop i s))) ≡ true
-    → (is_digit (hex_value (get_or s i 0) * 16 + hex_value (get_or s (i + 1) 0)) ≡ true) × (all_digits (unhex (take (n - 2) (drop (i + 2) s))) ≡ true)
-unfolding all_digits
-digits-apart s i n h q e = and-true (is_digit (hex_value (get_or s i 0) * 16 + hex_value (get_or s (i + 1) 0))) (all_digits (unhex (take (n - 2) (drop (i + 2) s)))) (rw (unhex-more s i n h q) at e)
-
-pub digits-end : (s : List ℕ) (i n : ℕ) → i + n ≤ length s → n ≤ 1 → true ≡ all_digits (unhex (take n (drop i s)))
-unfolding all_digits
-digits-end s i n h q = rw (unhex-none (take n (drop i s)) (simp (length-take, length-drop) (omega arith)))
-
 -- what a digit stands for, by its case
-pub low_digit : (b : ℕ) → b ≤ 57 → hex_value b ≡ b - 48
+low_digit : (b : ℕ) → b ≤ 57 → hex_value b ≡ b - 48
 unfolding hex_value
 low_digit b h = rw (le-leb b 57 h, hex_value)
 
-pub high_digit : (b : ℕ) → 57 < b → hex_value b ≡ b - 87
+high_digit : (b : ℕ) → 57 < b → hex_value b ≡ b - 87
 unfolding hex_value
 high_digit b h = rw (lt-leb b 57 h, hex_value)
 
@@ -75,18 +57,18 @@ module _ (s : List ℕ) (x : Place) (h : x.at + x.len ≤ length s) where
   unfolding bytes_of part
   bytes_count = unhex-length (take x.len (drop x.at s)) ∙ simp (length-take, length-drop) (omega arith)
 
-  pub odd-length : x.len / 2 % 2 ≡ 1 → x.len / 2 ≡ pushed (bytes_of s x)
+  pub odd-length : (x.len / 2 % 2 ≡ 0 → ⊥) → x.len / 2 ≡ pushed (bytes_of s x)
   unfolding pushed is_hex
-  odd-length q = rw (bytes_count, ne_eqb (x.len / 2 % 2) 0 (omega arith))
+  odd-length q = rw (bytes_count, ne_eqb (x.len / 2 % 2) 0 q)
 
-  module _ (q : x.len / 2 % 2 ≡ 1 → ⊥) {t : Bool} (e : t ≡ all_digits (unhex (take x.len (drop x.at s)))) where
+  module _ (q : x.len / 2 % 2 ≡ 0) {t : Bool} (e : t ≡ all_digits (unhex (take x.len (drop x.at s)))) where
     pub hex-length : t ≡ true → x.len / 2 / 2 ≡ pushed (bytes_of s x)
     unfolding pushed is_hex bytes_of part
-    hex-length d = rw (bytes_count, eq-eqb (x.len / 2 % 2) 0 (omega arith), ← e, d)
+    hex-length d = rw (bytes_count, eq-eqb (x.len / 2 % 2) 0 q, ← e, d)
 
     pub other_length : t ≡ false → x.len / 2 ≡ pushed (bytes_of s x)
     unfolding pushed is_hex bytes_of part
-    other_length d = rw (bytes_count, eq-eqb (x.len / 2 % 2) 0 (omega arith), ← e, d)
+    other_length d = rw (bytes_count, eq-eqb (x.len / 2 % 2) 0 q, ← e, d)
 
 -- tests taken apart
 or-true : (x y : Bool) → (x || y) ≡ true → (x ≡ true) ⊎ (y ≡ true)
@@ -102,7 +84,7 @@ abbrev From : ℕ → ℕ → ℕ → Type 0
 From low high b = (low ≤ b) × (b ≤ high)
 
 from-true : (low high b : ℕ) → (leb low b && leb b high) ≡ true → From low high b
-from-true low high b h = let t = and-true (leb low b) (leb b high) h in (leb-true low b t.0, leb-true b high t.1)
+from-true low high b h = let t = and_parts (leb low b) (leb b high) h in (leb-true low b t.0, leb-true b high t.1)
 
 -- a lower-case hex digit by what it stands for, and a digit by its case
 hex-cases : (b : ℕ) → is_hex_digit b ≡ true → (From 48 57 b × (hex_value b ≡ b - 48)) ⊎ (From 97 102 b × (hex_value b ≡ b - 87))
@@ -161,20 +143,20 @@ module _ (a b : ℕ) where
 
       go : ((eqb a 51 && leb 48 b && leb b 57) ≡ true) ⊎ (((eqb a 52 || eqb a 54) && leb 49 b && leb b 54) ≡ true) → Spelled a b ≡ true
       go (inl t) =
-          let p = and-true (eqb a 51 && leb 48 b) (leb b 57) t in
-          let q = and-true (eqb a 51) (leb 48 b) p.0 in
+          let p = and_parts (eqb a 51 && leb 48 b) (leb b 57) t in
+          let q = and_parts (eqb a 51) (leb 48 b) p.0 in
           let e = eqb-true a 51 q.0 in
           let g : From 48 57 b = (leb-true 48 b q.1, leb-true b 57 p.1) in
           pair_is (omega arith) g (λ x y. decimal_digit _ (omega arith))
       go (inr t) =
-          let p = and-true ((eqb a 52 || eqb a 54) && leb 49 b) (leb b 54) t in
-          let q = and-true (eqb a 52 || eqb a 54) (leb 49 b) p.0 in
+          let p = and_parts ((eqb a 52 || eqb a 54) && leb 49 b) (leb b 54) t in
+          let q = and_parts (eqb a 52 || eqb a 54) (leb 49 b) p.0 in
           letter (leb-true 49 b q.1, leb-true b 54 p.1) (or-true _ _ q.0)
 
   spelled-apart : Spelled a b ≡ true → (is_hex_digit a ≡ true) × (is_hex_digit b ≡ true) × (is_digit (hex_value a * 16 + hex_value b) ≡ true)
   spelled-apart h =
-      let p = and-true (is_hex_digit a && is_hex_digit b) (is_digit (hex_value a * 16 + hex_value b)) h in
-      let q = and-true (is_hex_digit a) (is_hex_digit b) p.0 in
+      let p = and_parts (is_hex_digit a && is_hex_digit b) (is_digit (hex_value a * 16 + hex_value b)) h in
+      let q = and_parts (is_hex_digit a) (is_hex_digit b) p.0 in
       (q.0, q.1, p.1)
 
   pair-from : Spelled a b ≡ true → Tested a b ≡ true
@@ -197,24 +179,55 @@ module _ (a b : ℕ) where
   pub pair-tested : Tested a b ≡ Spelled a b
   pair-tested = same_tests (Tested a b) (Spelled a b) pair-to pair-from
 
--- many bytes at once: from the bytes to the whole, and from the whole to a byte
-module _ (s : List ℕ) (i n : ℕ) (h : i + n ≤ length s) where
-  abbrev Byte : ℕ → ℕ
-  Byte j = hex_value (get_or s (i + 2 * j) 0) * 16 + hex_value (get_or s (i + 2 * j + 1) 0)
+-- whether all bytes pass a test: the first byte and the rest, and byte by byte
+abbrev pub Byte : List ℕ → ℕ → ℕ
+Byte s i = hex_value (get_or s i 0) * 16 + hex_value (get_or s (i + 1) 0)
 
-  pub digits-many : (m : ℕ) → 2 * m ≤ n → Every (λ j. is_digit (Byte j)) m → all_digits (unhex (take (n - 2 * m) (drop (i + 2 * m) s))) ≡ all_digits (unhex (take n (drop i s)))
-  digits-many zero q e =
+module _ (p : ℕ → Bool) (s : List ℕ) where
+  abbrev All : ℕ → ℕ → Bool
+  All i n = list_all p (unhex (take n (drop i s)))
+
+  all_more : (i n : ℕ) → i + n ≤ length s → 1 < n → All i n ≡ (p (Byte s i) && All (i + 2) (n - 2))
+  all_more i n h q = ap (list_all p) (unhex-more s i n h q)
+
+  all-end : (i n : ℕ) → i + n ≤ length s → n ≤ 1 → true ≡ All i n
+  all-end i n h q = sym (ap (list_all p) (unhex-none (take n (drop i s)) (simp (length-take, length-drop) (omega arith))))
+
+  all-many : (i n m : ℕ) → i + n ≤ length s → 2 * m ≤ n → Every (λ j. p (Byte s (i + 2 * j))) m → All (i + 2 * m) (n - 2 * m) ≡ All i n
+  all-many i n zero h q e =
       let x : n - 2 * 0 ≡ n = omega arith in
       let y : i + 2 * 0 ≡ i = omega arith in
       rw (x, y)
-  digits-many (suc m) q e =
+  all-many i n (suc m) h q e =
       let x : n - 2 * suc m ≡ n - 2 * m - 2 = omega arith in
       let y : i + 2 * suc m ≡ i + 2 * m + 2 = omega arith in
-      rw (x, y) (digits_more s (i + 2 * m) (n - 2 * m) (omega arith) (omega arith) refl (e m (omega arith)) ∙ digits-many m (omega arith) (λ j l. e j (omega arith)))
+      let f : All (i + 2 * m) (n - 2 * m) ≡ (p (Byte s (i + 2 * m)) && All (i + 2 * m + 2) (n - 2 * m - 2)) = all_more (i + 2 * m) (n - 2 * m) (omega arith) (omega arith) in
+      rw (x, y, ← all-many i n m h (omega arith) (λ j l. e j (omega arith)), f, e m (omega arith))
 
-pub digit_at : (s : List ℕ) (i n j : ℕ) → i + n ≤ length s → 2 * j + 1 < n → all_digits (unhex (take n (drop i s))) ≡ true → is_digit (hex_value (get_or s (i + 2 * j) 0) * 16 + hex_value (get_or s (i + 2 * j + 1) 0)) ≡ true
-digit_at s i n zero h q e = let y : i + 2 * 0 ≡ i = omega arith in rw y (digits-apart s i n h (omega arith) e).0
-digit_at s i n (suc j) h q e = let y : i + 2 * suc j ≡ i + 2 + 2 * j = omega arith in rw y (digit_at s (i + 2) (n - 2) j (omega arith) (omega arith) (digits-apart s i n h (omega arith) e).1)
+  byte-passes : (i n j : ℕ) → i + n ≤ length s → 2 * j + 1 < n → All i n ≡ true → p (Byte s (i + 2 * j)) ≡ true
+  byte-passes i n zero h q e = let y : i + 2 * 0 ≡ i = omega arith in rw y (and_parts _ _ (sym (all_more i n h (omega arith)) ∙ e)).0
+  byte-passes i n (suc j) h q e = let y : i + 2 * suc j ≡ i + 2 + 2 * j = omega arith in rw y (byte-passes (i + 2) (n - 2) j (omega arith) (omega arith) (and_parts _ _ (sym (all_more i n h (omega arith)) ∙ e)).1)
+
+  -- a test on pairs that gives this test of the byte that they spell
+  pub all-pairs : {P : ℕ → ℕ → Bool → Type 0} {i n : ℕ} {b : Bool} → AllPairs P s i n b → i + n ≤ length s → ((x y : ℕ) (r : Bool) → P x y r → r ≡ p (hex_value x * 16 + hex_value y)) → b ≡ All i n
+  all-pairs {P} {i} {n} {b} f h g = go b refl
+    where
+      passed : (r : Bool) → All i n ≡ r → b ≡ false → false ≡ r
+      passed false d e = refl
+      passed true d e = let (j, l, q) = f.one e in g _ _ false q ∙ byte-passes i n j h l d
+
+      go : (r : Bool) → b ≡ r → r ≡ All i n
+      go true e = all-end (i + 2 * (n / 2)) (n - 2 * (n / 2)) (omega arith) (omega arith) ∙ all-many i n (n / 2) h (omega arith) (λ j l. sym (g _ _ true (f.each e j (omega arith))))
+      go false e = passed (All i n) refl e
+
+-- a recursion that says the same
+pub digits-all : (l : List ℕ) → list_all is_digit l ≡ all_digits l
+unfolding all_digits
+digits-all [] = refl
+digits-all (b ∷ l) = ap (λ r. is_digit b && r) (digits-all l)
+
+pub digits-run : (s : List ℕ) (i n : ℕ) → i + n ≤ length s → 32 ≤ n → all_digits (unhex (take 32 (drop i s))) ≡ true → all_digits (unhex (take (n - 32) (drop (i + 32) s))) ≡ all_digits (unhex (take n (drop i s)))
+digits-run s i n h q e = sym (digits-all _) ∙ all-many is_digit s i n 16 h (omega arith) (λ j l. byte-passes is_digit s i 32 j (omega arith) (omega arith) (digits-all _ ∙ e)) ∙ digits-all _
 
 -- pairs that spell digits, one by one and all together
 abbrev pub Pair : List ℕ → ℕ → ℕ → Bool
@@ -233,20 +246,8 @@ module _ (s : List ℕ) (i m : ℕ) (h : i + 2 * m ≤ length s) where
 
   pub pairs-spelled : Pairs s i m ↔ (Every (λ j. is_hex_digit (get_or s (i + j) 0)) (2 * m) × (all_digits (unhex (take (2 * m) (drop i s))) ≡ true))
   pairs-spelled = (
-    λ e. (hex-each e, sym (digits-end s (i + 2 * m) (2 * m - 2 * m) (omega arith) (omega arith) ∙ digits-many s i (2 * m) h m (omega arith) (λ j l. (spelled-apart (get_or s (i + 2 * j) 0) (get_or s (i + 2 * j + 1) 0) (e j l)).2))),
+    λ e. (hex-each e, sym (all-end is_digit s (i + 2 * m) (2 * m - 2 * m) (omega arith) (omega arith) ∙ all-many is_digit s i (2 * m) m h (omega arith) (λ j l. (spelled-apart (get_or s (i + 2 * j) 0) (get_or s (i + 2 * j + 1) 0) (e j l)).2) ∙ digits-all _)),
     λ e j l.
         let y : i + 2 * j + 1 ≡ i + (2 * j + 1) = omega arith in
-        rw (e.0 (2 * j) (omega arith), y, e.0 (2 * j + 1) (omega arith), ← y) (digit_at s i (2 * m) j h (omega arith) e.1),
+        rw (e.0 (2 * j) (omega arith), y, e.0 (2 * j + 1) (omega arith), ← y) (byte-passes is_digit s i (2 * m) j h (omega arith) (digits-all _ ∙ e.1)),
   )
-
-pub every-none : (p : ℕ → Bool) → (true ≡ true) ↔ Every p 0
-every-none p = (λ h j l. absurd (omega arith), λ h. refl)
-
--- one place more
-pub every_more : (p : ℕ → Bool) (n : ℕ) (ok : Bool) → (ok ≡ true) ↔ Every p n → ((ok && p n) ≡ true) ↔ Every p (n + 1)
-every_more p n true h = (λ q j l. last q j l (ltb j n) refl, λ e. e n (omega arith))
-  where
-    last : p n ≡ true → (j : ℕ) → j < n + 1 → (b : Bool) → ltb j n ≡ b → p j ≡ true
-    last q j l true t = h.0 refl j (ltb-true j n t)
-    last q j l false t = let o = ltb-false j n t in let e : j ≡ n = omega arith in ap p e ∙ q
-every_more p n false h = (λ q. absurd (let z : ◌≡◌ {A = ℕ} 0 1 = cc in omega arith), λ e. h.1 (λ j l. e j (omega arith)))

@@ -6,11 +6,11 @@ use Rattle.text.specs.declared.Cursor.{Cursor}
 use Rattle.text.specs.Text.{Got, got, failed, Reader, read, fail, ◌>>=◌, ◌<∘>◌, yield, index, choice, location}
 use Rattle.text.proofs.Places.{location-keeps, index-keeps}
 use Rattle.listing.specs.declared.Line.{Line}
-use Rattle.listing.specs.Forms.{with, forms, fields_of, closed, line}
+use Rattle.listing.specs.Forms.{with, with₂, forms, fields_of, closed, line}
 use Rattle.listing.proofs.Lines.{line-past, line-form, unplaced-failed, Apart, apart_from, apart-fails}
 use Rattle.rows.specs.declared.Words.{Words}
 use Rattle.rows.specs.Rows.{row_with, row_of}
-use Rattle.forms.specs.Rowed.{row_read, ended_row}
+use Rattle.forms.specs.Rowed.{both, row_read, ended_row}
 use Rattle.forms.proofs.Rowed.{rowed-bind, rowed-choice, rowed-map, rowed-end, bind_assoc, read-got, Numbered, number-back}
 
 -- one of some variants, as its number

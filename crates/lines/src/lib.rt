@@ -52,7 +52,10 @@ pub fn read_line(c: Cursor) -> Option<(Words, Cursor)>
     ensures { result ≡ option_map (λ p. (row_of p.0, p.1)) (read line c.entry) }
 {
     let letter = *c.listing.get(c.at)?;
-    let fields = Cursor { at: c.at + 1, ..c };
+    let fields = Cursor {
+        at: c.at + 1,
+        ..c
+    };
     match letter {
         b'T' => contract_row(fields),
         b'D' => counted_row(fields, letters::DECLARATION),

@@ -9,6 +9,7 @@ use mathlib.Core.Path.{◌≡◌, refl, sym, ap, ◌∙◌, subst}
 use borrow.Author.Tests.{ltb-true, ltb-false}
 use lib.Dec.{ltb}
 use lib.ListN.{length, drop}
+use Rattle.listing.specs.declared.Lexed.{Lexed}
 use Rattle.listing.specs.declared.Lexed.TheVariants.{Good, Malformed as NoForm, End as AtEnd}
 use Rattle.std.specs.Prelude.{Option, Some, None, option_map}
 use Rattle.text.specs.declared.Cursor.{Cursor}

@@ -21,15 +21,12 @@ pub record Stored (s w t : List ℕ) (n : Lines) : Type 0 where
   pub after : n.count ≤ max_lines → standing (nth n.count 0 s) ≡ elim n.ended [ true ↦ End | false ↦ Malformed ]
 
 -- a reading as the code answers it: how many lines were read, or the refusal
-abbrev pub ListingRead : Type 0
-ListingRead = Result ℕ CompileError
-
-unfoldable pub rows_of : Read Contract → ListingRead
+unfoldable pub rows_of : Read Contract → Result ℕ CompileError
 rows_of (read c q) = Ok q.index
 rows_of (refused x) = Err x
 
 -- the answer: 5 if work is too short, else what the reading gives
-unfoldable pub listing_read : List ℕ → ℕ → ListingRead
+unfoldable pub listing_read : List ℕ → ℕ → Result ℕ CompileError
 listing_read s words = elim (ltb words work_words) [ true ↦ Err (fault WorkTooShort unplaced) | false ↦ rows_of (read_listing s) ]
 
 -- rows that are kept after a reading, and cleared after a refusal

@@ -22,8 +22,8 @@ use Rattle.rules.proofs.Flowing.{count-paths}
 use Rattle.rules.proofs.Demand3.{accepted-in-order, accepted-finals}
 use Rattle.rows.specs.Rows.{line_in}
 use Rattle.rows.specs.Work.{cleared}
-use Rattle.reading.specs.Held.{ListingRead}
-use Rattle.std.specs.Prelude.{Ok, Err}
+use Rattle.reading.specs.declared.ListingRead.{ListingRead}
+use Rattle.reading.specs.declared.ListingRead.TheVariants.{Rows as RowsRead, Refused as ReadRefused}
 use Rattle.reading.specs.Held.{Spelled, listing_read, work_read}
 use Rattle.reader.specs.Ceilings.{max_bytes}
 use Rattle.reader.specs.Spells.{SpellsContract}
@@ -165,13 +165,13 @@ abbrev pub Promised : List ℕ → List ℕ → Rehearsal → Turn → Name → 
 Promised s w r turn x a u = (a ≡ turned s (length w) r turn x) × ((u ≡ work_after w) × DueInside s a)
 
 module _ (s w t : List ℕ) (r : Rehearsal) (turn : Turn) (name : Name) {y : ListingRead} (answered : y ≡ listing_read s (length w)) (held : t ≡ work_read s w) where
-  pub refuses : (x : CompileError) → y ≡ Err x → Promised s w r turn name (Refused x) t
+  pub refuses : (x : CompileError) → y ≡ ReadRefused x → Promised s w r turn name (Refused x) t
   unfolding on_path on_tables check
   refuses x e =
       let h = sym answered ∙ e in
       (sym (ap (on_tables r.path (act s r turn name)) (verdict-refused (examine s (length w)) x (check-refused s x (length w) h))), (held ∙ work-refused s x w h, refused-inside s x))
 
-  module _ (n : ℕ) (e : y ≡ Ok n) (h : Spelled s t n) where
+  module _ (n : ℕ) (e : y ≡ RowsRead n) (h : Spelled s t n) where
     pub turns : (a : Rehearsed) (u : List ℕ) → ((c : Contract) (ps : List (List Item)) → SpellsContract (line_in t) s c n → Declares t ps → a ≡ turn_by (tests (verdict (analyze c)) (length c.declarations) r) (turn_in s ps r turn name)) → u ≡ cleared t → Promised s w r turn name a u
     unfolding on_path item_at
     turns a u f g =

@@ -19,7 +19,7 @@ ghost use Rattle.rehearsal.specs.Acts.{turned};
 
 use declarations::declarations;
 use examiner::analyze_rows;
-use reading::read_listing;
+use reading::{ListingRead, read_listing};
 use turns::{Rehearsal, Rehearsed, Turn, turn_by};
 
 // A turn on the contract in n rows of work, which is analyzed first; work is cleared.
@@ -56,8 +56,8 @@ pub fn rehearse(
 {
     let read = read_listing(listing, work);
     match read {
-        Err(x) => Rehearsed::Refused(x),
-        Ok(n) => turn_rows(listing, work, n, r, turn, name),
+        ListingRead::Refused(x) => Rehearsed::Refused(x),
+        ListingRead::Rows(n) => turn_rows(listing, work, n, r, turn, name),
     }
 }
 

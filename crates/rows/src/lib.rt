@@ -12,6 +12,13 @@ use text::Place;
 // How many words a row has.
 pub const ROW_WORDS: usize = 9;
 
+// A listing, and the rows of its lines.
+#[derive(Clone, Copy)]
+pub struct Rows<'a> {
+    pub listing: &'a [u8],
+    pub table: &'a [u32],
+}
+
 // The letter of a line's form, its location, and up to four more fields.
 #[derive(Clone, Copy, PartialEq, Eq)]
 pub struct Words {
@@ -26,32 +33,36 @@ pub struct Words {
     pub d: u32,
 }
 
-pub fn place_in(r: Words) -> Location
-    ensures { result ≡ place_in r }
-{
-    Location {
-        start: r.start,
-        end: r.end,
-        line: r.line,
-        column: r.column,
+impl Words {
+    // Where the line's node stands.
+    pub fn location(self) -> Location
+        ensures { result ≡ place_in self }
+    {
+        Location {
+            start: self.start,
+            end: self.end,
+            line: self.line,
+            column: self.column,
+        }
     }
-}
 
-pub fn signed_in(r: Words) -> Signed
-    ensures { result ≡ signed_in r }
-{
-    Signed {
-        negative: r.b == 1,
-        magnitude: r.d as u64 * 4294967296 + r.c as u64,
+    pub fn signed(self) -> Signed
+        ensures { result ≡ signed_in self }
+    {
+        Signed {
+            negative: self.b == 1,
+            magnitude: u64::from(self.d) * 4294967296 + u64::from(self.c),
+        }
     }
-}
 
-pub fn part_in(r: Words) -> Place
-    ensures { result ≡ part_in r }
-{
-    Place {
-        at: r.a as usize,
-        len: r.b as usize,
+    // The part of the listing that a line names.
+    pub fn part(self) -> Place
+        ensures { result ≡ part_in self }
+    {
+        Place {
+            at: self.a as usize,
+            len: self.b as usize,
+        }
     }
 }
 

@@ -1,4 +1,5 @@
-use Rattle.std.proofs.Common.{[], ◌∷◌, true, false, refl, sym, ◌∙◌}
+use Rattle.std.proofs.Common.{[], ◌∷◌, true, false, refl, sym, ap, ◌∙◌}
+use Rattle.std.specs.Prelude.{option_and_then}
 use Rattle.ast.specs.declared.BinaryLogicalOp.TheVariants.{BoolAnd}
 use Rattle.ast.specs.declared.BinaryCompareOp.TheVariants.{NumNotEqual}
 use Rattle.ast.specs.declared.BinaryMathOp.TheVariants.{Min}
@@ -9,8 +10,8 @@ use Rattle.listing.specs.declared.Line.{Line}
 use Rattle.listing.specs.declared.StatementLine.{StatementLine}
 use Rattle.listing.specs.declared.ExpressionLine.{ExpressionLine}
 use Rattle.listing.specs.declared.FactorLine.{FactorLine}
-use Rattle.text.specs.Text.{◌>>=◌, ◌<∘>◌, yield, word, choice, bit, signed, name, literal}
-use Rattle.listing.specs.Forms.{with, with₂, fields_of}
+use Rattle.text.specs.Text.{◌>>=◌, ◌<∘>◌, yield, word, choice, bit, signed, location, name, literal}
+use Rattle.listing.specs.Forms.{with, with₂, forms, fields_of}
 use Rattle.rows.specs.Rows.{bit_number, statement_row, expression_row, factor_row, row_of}
 use Rattle.forms.specs.Rowed.{both, item_fields, wait_fields, number_fields, name_fields, literal_fields, multi_fields}
 use Rattle.lines.proofs.Located.{bare, mapped, operator, small_after, unlocated, no_form, letter_row}

@@ -1,11 +1,8 @@
 use Prim.Native.Nat.{◌-◌}
 use native.Mathlib.Omega.{arith}
-use mathlib.Core.Path.{◌≡◌, sym, ◌∙◌}
+use mathlib.Core.Path.{sym, ◌∙◌}
 use Rattle.names.proofs.Laws.{items-named, name-inside, find-done, find-missing, find-here, find-next}
 use Rattle.names.proofs.find_item.Goals as goal
-
-pub loop-k-init : goal.loop-k-init
-loop-k-init c = let e : c.args.count - 0 ≡ c.args.count = omega arith in (omega arith, rw e)
 
 pub overflow_add-first : goal.overflow_add-first
 overflow_add-first c =
@@ -28,17 +25,17 @@ returns-then-same_name c =
     let a = c.args in
     let l = c.loop-k in
     let p = c.item_at-it in
-    find-done a.listing.now a.table.now a.first a.count l.k a.x _ (find-here a.listing.now a.table.now a.first a.count l.k a.x c.loop-k-test.true p.result p.ensures l.invariant.1 (sym c.if-same_name.true ∙ c.same_name.ensures))
+    find-done a.listing.now a.table.now a.first a.count l.k a.x _ (find-here a.listing.now a.table.now a.first a.count l.k a.x c.loop-k-test.true p.result p.ensures l.invariant (sym c.if-same_name.true ∙ c.same_name.ensures))
 
 pub loop-k-preserved : goal.loop-k-preserved
 loop-k-preserved c =
     let a = c.args in
     let l = c.loop-k in
     let p = c.item_at-it in
-    (omega arith, find-next a.listing.now a.table.now a.first a.count l.k a.x c.loop-k-test.true p.result p.ensures l.invariant.1 (sym c.if-same_name.false ∙ c.same_name.ensures))
+    find-next a.listing.now a.table.now a.first a.count l.k a.x c.loop-k-test.true p.result p.ensures l.invariant (sym c.if-same_name.false ∙ c.same_name.ensures)
 
 pub returns : goal.returns
 returns c =
     let a = c.args in
     let l = c.loop-k in
-    find-done a.listing.now a.table.now a.first a.count l.k a.x _ (find-missing a.listing.now a.table.now a.first a.count l.k a.x l.invariant.1 c.loop-k-test.false)
+    find-done a.listing.now a.table.now a.first a.count l.k a.x _ (find-missing a.listing.now a.table.now a.first a.count l.k a.x l.invariant c.loop-k-test.false)

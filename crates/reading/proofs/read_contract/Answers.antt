@@ -1,5 +1,5 @@
 -- A contract meets its contract: at any bound that is large enough, as 600 is, the walk is the reading.
-use Rattle.std.proofs.Common.{◌<◌, arith, sym, ◌∙◌}
+use Rattle.std.proofs.Common.{ℕ, ◌<◌, arith, sym, ap, ◌∙◌}
 use Rattle.std.proofs.lemmas.Result.{err_from_is_err_and}
 use Rattle.tree.specs.Walk.{deepest}
 use Rattle.tree.proofs.Walk.{all_levels, whole, contract_refused, contract_end}

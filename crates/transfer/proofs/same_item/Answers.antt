@@ -1,15 +1,7 @@
 use mathlib.Core.Path.{sym, ap₂, ◌∙◌}
 use Rattle.ast.specs.Tree.{same}
-use Rattle.names.proofs.Laws.{name-inside, item-is}
+use Rattle.names.proofs.Laws.{item-is}
 use Rattle.transfer.proofs.same_item.Goals as goal
-
-pub same_name-requires : goal.same_name-requires
-same_name-requires c =
-    let s = c.args.listing.now in
-    let t = c.args.table.now in
-    let first = c.item_at-a in
-    let second = c.item_at-b in
-    (name-inside s t first.result c.requires.0 first.ensures, name-inside s t second.result c.requires.1 second.ensures)
 
 pub returns : goal.returns
 returns c =

@@ -18,14 +18,11 @@ decreases-check_inner l = 2 * (length l.table.now - l.i)
 abbrev pub decreases-check_variables : goal.decreases-check_variables
 decreases-check_variables l = 2 * (length l.table.now - l.i)
 
-abbrev pub invariant-check_factors-loop-left : goal.invariant-check_factors-loop-left
-invariant-check_factors-loop-left l = Rest (SpellsFactors (line_in l.table) l.listing) usage_factors l.listing l.table l.n l.i l.initial.out l.left l.next l.out
-
-abbrev pub decreases-check_factors-loop-left : goal.decreases-check_factors-loop-left
-decreases-check_factors-loop-left l = l.left
+abbrev pub invariant-check_factors-loop : goal.invariant-check_factors-loop
+invariant-check_factors-loop l = Rest (SpellsFactors (line_in l.table) l.listing) usage_factors l.listing l.table l.n l.i l.initial.used.path (l.n - l.counter) l.used
 
 abbrev pub invariant-check_variables-loop-due : goal.invariant-check_variables-loop-due
-invariant-check_variables-loop-due l = Rest (SpellsExpressions (line_in l.table) l.listing) usage_all l.listing l.table l.n l.i l.initial.out l.due l.next l.out
+invariant-check_variables-loop-due l = Rest (SpellsExpressions (line_in l.table) l.listing) usage_all l.listing l.table l.n l.i l.initial.used.path l.due l.used
 
 abbrev pub decreases-check_variables-loop-due : goal.decreases-check_variables-loop-due
-decreases-check_variables-loop-due l = length l.table - l.next
+decreases-check_variables-loop-due l = length l.table - l.used.next

@@ -4,7 +4,7 @@ use Rattle.rows.specs.Rows.{line_in}
 use Rattle.nodes.proofs.Laws.{below}
 use Rattle.paths.specs.Path.{table_of}
 use Rattle.usage.specs.Walk.{SpellsExpressions}
-use Rattle.paths.proofs.Walks.{walk_is}
+use Rattle.usage.proofs.Walks.{to-is}
 use Rattle.usage.proofs.Trees.{one-all, spells_one}
 use Rattle.usage.proofs.check_variable.Goals as goal
 
@@ -18,4 +18,4 @@ pub returns : goal.returns
 returns c e j sp =
     let s = c.args.listing.now in
     let t = c.args.table.now in
-    walk_is (c.check_variables.ensures (e ∷ []) j (spells_one (line_in t) s sp)) (one-all e (table_of s t c.args.path))
+    to-is (c.check_variables.ensures (e ∷ []) j (spells_one (line_in t) s sp)) (one-all e (table_of s t c.args.path))

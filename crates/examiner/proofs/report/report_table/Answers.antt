@@ -10,10 +10,7 @@ use Rattle.examiner.proofs.report.report_table.Goals as goal
 pub report_acceptance-requires : goal.report_acceptance-requires
 report_acceptance-requires c =
     let pre = c.requires in
-    record {
-      paths = found-ready (analyze pre.0.contract) (c.analyze-held.ensures pre.0.contract pre.0.spells) c.verdict_in-answer.ensures c.in-Accepted.is;
-      block = block-rows pre.0 (pre.1 pre.0.contract pre.0.spells);
-    }
+    (found-ready (analyze pre.0.contract) (c.analyze-held.ensures pre.0.contract pre.0.spells) c.verdict_in-answer.ensures c.in-Accepted.is, pre.0.rows.short, block-rows pre.0 (pre.1 pre.0.contract pre.0.spells))
 
 pub returns-in-Refused : goal.returns-in-Refused
 returns-in-Refused c =

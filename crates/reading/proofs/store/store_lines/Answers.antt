@@ -1,8 +1,8 @@
-use Rattle.std.proofs.Common.{◌*◌, ◌<◌, length, arith, refl, sym, ap, ◌∙◌}
+use Rattle.std.proofs.Common.{◌≡◌, ◌*◌, ◌<◌, length, arith, refl, sym, ap, ◌∙◌}
 use Rattle.listing.specs.Forms.{line_at}
 use Rattle.std.proofs.lemmas.List.Edits.{sets}
-use Rattle.rows.specs.Rows.{row_words, words_of, with_row}
-use Rattle.reading.proofs.Stored.{storing-none, storing-more, stored-malformed, stored-end, line-read, line-none}
+use Rattle.rows.specs.Rows.{row_of, row_words, words_of, with_row}
+use Rattle.reading.proofs.Stored.{storing-none, storing-more, stored-malformed, stored-end, stored-full, line-read, line-none}
 use Rattle.reading.proofs.store.store_lines.Goals as goal
 
 pub loop-count-init : goal.loop-count-init
