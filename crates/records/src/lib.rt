@@ -19,6 +19,9 @@ use std::error::Error;
 use std::io::Read;
 use std::{fmt, io};
 
+#[cfg(test)]
+mod tests;
+
 // What work memory holds before a call. It has 16 words more than are asked.
 pub const FILLED: u32 = 7;
 
