@@ -23,7 +23,7 @@ def enums(text):
         yield m, m.group(1), [re.match(r"    (\w+)", line).group(1) for line in lines], any("(" in line for line in lines)
 
 
-FUNCTION = re.compile(r"""^(?P<indent>\ *)(?:pub\ )?(?:const\ )?(?:extern\ "C"\ )?fn\ (?P<name>\w+)(?:<[^>]*>)?\((?P<parameters>.*?)\)
+FUNCTION = re.compile(r"""^(?P<indent>\ *)(?:pub\ )?(?:const\ )?(?:extern\ "C"\ )?fn\ (?P<name>\w+)(?:<.*?>)?\((?P<parameters>.*?)\)
     (?:(?P<answer>(?:\ ->\ [^{\n]+)?)\ (?P<plain>\{\n.*?^(?P=indent)\})
     |(?P<clauses>.*?)^(?P=indent)(?P<body>\{\n.*?^(?P=indent)\}|\{\}|\{\ .*\ \}$))""", re.M | re.S | re.X)
 

@@ -1,15 +1,14 @@
 -- Answers in numbers.
-use Rattle.std.specs.Prelude.{ℕ, List, [], ◌∷◌}
+use Rattle.std.specs.Prelude.{ℕ, List, [], ◌∷◌, Ok, Err}
 use Rattle.std.proofs.Math.Option.{Option, some, none}
 use Rattle.ast.specs.Tree.{number}
 use Rattle.text.specs.declared.Place.{Place}
-use Rattle.verdicts.specs.declared.Verdict.{Verdict}
-use Rattle.verdicts.specs.declared.Verdict.TheVariants.{Accepted, Refused}
+use Rattle.rules.specs.Result.{Checked}
 
 -- 0 and no location, or the number of the refusal with its start, end, line and column
-unfoldable pub numbers_of : Verdict → List ℕ
-numbers_of Accepted = 0 ∷ 0 ∷ 0 ∷ 0 ∷ 0 ∷ []
-numbers_of (Refused x) = number x.kind ∷ x.loc.start ∷ x.loc.end ∷ x.loc.line ∷ x.loc.column ∷ []
+unfoldable pub numbers_of : Checked → List ℕ
+numbers_of (Ok _) = 0 ∷ 0 ∷ 0 ∷ 0 ∷ 0 ∷ []
+numbers_of (Err x) = number x.kind ∷ x.loc.start ∷ x.loc.end ∷ x.loc.line ∷ x.loc.column ∷ []
 
 -- where a name stands, and how long it is; zeros if there is none
 unfoldable pub place_numbers : Option Place → List ℕ

@@ -1,8 +1,7 @@
 -- A rehearsal, the item due and the answer in numbers.
-use Rattle.std.specs.Prelude.{ℕ, List, [], ◌∷◌, ◌≡◌, get_or}
+use Rattle.std.specs.Prelude.{ℕ, List, [], ◌∷◌, ◌≡◌, get_or, Ok, Err}
 use Rattle.ast.specs.Numbers.{type_number}
-use Rattle.verdicts.specs.declared.Verdict.{Verdict}
-use Rattle.verdicts.specs.declared.Verdict.TheVariants.{Accepted, Refused as NotAccepted}
+use Rattle.rules.specs.Result.{Checked}
 use Rattle.turns.specs.declared.Rehearsal.{Rehearsal}
 use Rattle.turns.specs.declared.Rehearsed.{Rehearsed}
 use Rattle.turns.specs.declared.Rehearsed.TheVariants.{Due, Ended, Refused}
@@ -10,13 +9,13 @@ use Rattle.turns.specs.State.{onward}
 use Rattle.answers.specs.Numbers.{numbers_of}
 
 -- the answer: as Check's, acceptance unless it is a refusal
-unfoldable pub verdict_of : Rehearsed → Verdict
-verdict_of (Due p t r) = Accepted
-verdict_of (Ended r) = Accepted
-verdict_of (Refused x) = NotAccepted x
+unfoldable pub checked_of : Rehearsed → Checked
+checked_of (Due p t r) = Ok tt
+checked_of (Ended r) = Ok tt
+checked_of (Refused x) = Err x
 
 abbrev pub answer_of : Rehearsed → List ℕ
-answer_of a = numbers_of (verdict_of a)
+answer_of a = numbers_of (checked_of a)
 
 -- a rehearsal: its path, and the position due
 abbrev pub rehearsal_in : List ℕ → Rehearsal

@@ -1,61 +1,30 @@
 // Answers in numbers, as the C functions write them.
 #![tactic(auto)]
 
-ghost use Rattle.std.specs.Prelude.{◌≡◌, List, ℕ, get_or};
-ghost use Rattle.verdicts.specs.declared.Verdict.TheVariants.{Refused};
+ghost use Rattle.std.specs.Prelude.{◌≡◌, List, ℕ};
 ghost use Rattle.turns.specs.State.{DueInside};
 ghost use Rattle.answers.specs.Numbers.{numbers_of};
 ghost use Rattle.answers.specs.Rehearsals.{rehearsal_numbers, Puts};
 
 use ast::CompileError;
-use ast::numbers::{error_number, type_number};
 use turns::{Rehearsal, Rehearsed};
-use verdicts::Verdict;
-
-// A refusal in numbers.
-fn put_fault(answer: &mut [u32; 5], x: CompileError)
-    ensures { answer.new ≡ numbers_of (Refused x) }
-{
-    let loc = x.loc;
-    let kind = x.kind;
-    *answer = [error_number(kind), loc.start, loc.end, loc.line, loc.column];
-}
 
 // An answer in numbers.
-pub fn put_answer(answer: &mut [u32; 5], c: Verdict)
-    ensures { answer.new ≡ numbers_of c }
+#[tactic(auto, unfolding(crate::specs::Numbers::numbers_of))]
+pub fn numbers_of(answer: Result<(), CompileError>) -> [u32; 5]
+    ensures { result ≡ numbers_of answer }
 {
-    match c {
-        Verdict::Accepted => {
-            *answer = [0, 0, 0, 0, 0];
-        }
-        Verdict::Refused(x) => put_fault(answer, x),
-    }
-}
-
-// The number of a refusal.
-fn fault_number(x: CompileError) -> u32
-    ensures { result ≡ get_or (numbers_of (Refused x)) 0 0 }
-{
-    let kind = x.kind;
-    error_number(kind)
-}
-
-// The number of an answer.
-pub fn answer_number(c: Verdict) -> u32
-    ensures { result ≡ get_or (numbers_of c) 0 0 }
-{
-    match c {
-        Verdict::Accepted => 0,
-        Verdict::Refused(x) => fault_number(x),
+    match answer {
+        Ok(()) => [0; 5],
+        Err(CompileError { loc, kind }) => [kind.into(), loc.start, loc.end, loc.line, loc.column],
     }
 }
 
 // A rehearsal in numbers.
-fn put_rehearsal(rehearsal: &mut [u32; 2], r: Rehearsal)
-    ensures { rehearsal.new ≡ rehearsal_numbers r }
+fn rehearsal_numbers(r: Rehearsal) -> [u32; 2]
+    ensures { result ≡ rehearsal_numbers r }
 {
-    *rehearsal = [r.path, r.due];
+    [r.path, r.due]
 }
 
 // An answer in numbers; a refusal leaves the rehearsal and the item due.
@@ -70,15 +39,15 @@ pub fn put_rehearsed(
 {
     match x {
         Rehearsed::Due(p, t, r) => {
-            put_rehearsal(rehearsal, r);
-            *due = [1, p.at as u32, p.len as u32, type_number(t)];
-            put_answer(answer, Verdict::Accepted);
+            *rehearsal = rehearsal_numbers(r);
+            *due = [1, p.at as u32, p.len as u32, t.into()];
+            *answer = numbers_of(Ok(()));
         }
         Rehearsed::Ended(r) => {
-            put_rehearsal(rehearsal, r);
-            *due = [0, 0, 0, 0];
-            put_answer(answer, Verdict::Accepted);
+            *rehearsal = rehearsal_numbers(r);
+            *due = [0; 4];
+            *answer = numbers_of(Ok(()));
         }
-        Rehearsed::Refused(e) => put_fault(answer, e),
+        Rehearsed::Refused(e) => *answer = numbers_of(Err(e)),
     }
 }

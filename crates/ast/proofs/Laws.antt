@@ -1,15 +1,14 @@
 -- A number past the last variant stands for the last, a variant's number for the variant, and a number that is no kind's for no kind. Assumes nothing.
 use mathlib.Core.Path.{◌≡◌, refl, sym}
 use mathlib.Core.List.{List, [], ◌∷◌}
-use mathlib.Core.Option.{none}
+use Rattle.std.specs.Prelude.{None}
 use Prim.Native.Nat.{ℕ, zero, suc, pred, ◌≤◌}
 use native.Mathlib.Omega.{arith}
 use borrow.Author.Tests.{ne_eqb}
 use lib.ListN.{length, get_or}
-use Rattle.ast.specs.Numbers.{targets, types, logical_ops, compare_ops, math_ops, unary_ops, crypto_ops, locktime_ops, target_number, type_number, logical_number, compare_number, math_number, unary_number, crypto_number, locktime_number, kinds, kind_among, kind_from, found_kind}
+use Rattle.ast.specs.Numbers.{targets, types, logical_ops, compare_ops, math_ops, unary_ops, crypto_ops, locktime_ops, target_number, type_number, logical_number, compare_number, math_number, unary_number, crypto_number, locktime_number, kinds, kind_among, kind_from}
 use Rattle.ast.specs.Tree.{number}
 use Rattle.ast.specs.declared.ErrorKind.{ErrorKind}
-use Rattle.ast.specs.declared.KindFound.{KindFound}
 use Rattle.ast.specs.declared.Target.{Target}
 use Rattle.ast.specs.declared.Type.{«Type» as ItemType}
 use Rattle.ast.specs.declared.BinaryLogicalOp.{BinaryLogicalOp}
@@ -43,16 +42,16 @@ abbrev OfNone : ℕ → Type 0 → List ErrorKind → Type 0
 OfNone n P [] = P
 OfNone n P (k ∷ ks) = OfNone n (P × (n ≡ number k → ⊥)) ks
 
-none-among : (n : ℕ) (P : Type 0) (ks : List ErrorKind) → OfNone n P ks → P × (kind_among ks n ≡ none)
+none-among : (n : ℕ) (P : Type 0) (ks : List ErrorKind) → OfNone n P ks → P × (kind_among ks n ≡ None)
 unfolding kind_among
 none-among n P [] h = (h, refl)
 none-among n P (k ∷ ks) h =
     let r = none-among n (P × (n ≡ number k → ⊥)) ks h in
     (r.0.0, rw (ne_eqb (number k) n (λ e. r.0.1 (sym e)), kind_among) r.1)
 
-pub kind-none : (n : ℕ) → OfNone n (Unit {0}) kinds → KindFound.Nothing ≡ found_kind (kind_from n)
-unfolding kind_from found_kind
-kind-none n h = rw ((none-among n (Unit {0}) kinds h).1, kind_from) refl
+pub kind-none : (n : ℕ) → OfNone n (Unit {0}) kinds → kind_from n ≡ None
+unfolding kind_from
+kind-none n h = (none-among n (Unit {0}) kinds h).1
 
 pub target-back : (x : Target) → get_or targets (target_number x) Target.Taproot ≡ x
 target-back Target.Legacy = refl

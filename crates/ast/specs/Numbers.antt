@@ -1,6 +1,5 @@
 -- Enum numbers follow the order in src/ast.rs, from 0.
-use Rattle.std.specs.Prelude.{ℕ, true, false, List, [], ◌∷◌, eqb}
-use Rattle.std.proofs.Math.Option.{Option, some, none}
+use Rattle.std.specs.Prelude.{ℕ, true, false, Option, Some, None, List, [], ◌∷◌, eqb}
 use Rattle.ast.specs.declared.Target.{Target}
 use Rattle.ast.specs.declared.Target.TheVariants.{Legacy, Segwit, Taproot}
 use Rattle.ast.specs.declared.Type.{«Type» as ItemType}
@@ -19,7 +18,6 @@ use Rattle.ast.specs.declared.LocktimeOp.{LocktimeOp}
 use Rattle.ast.specs.declared.LocktimeOp.TheVariants.{Cltv, Csv, CsvTime}
 use Rattle.ast.specs.declared.ErrorKind.{ErrorKind}
 use Rattle.ast.specs.declared.ErrorKind.TheVariants.{ListingTooLong, MalformedLine, UnexpectedLine, CeilingPassed, WorkTooShort, OutputTooShort, DuplicateVariable, UndefinedVariable, VariableConsumed, UnusedVariable, InvalidConsumptionOrder, TypeMismatch, InvalidOperation, NoReturn, UnreachableCode, DeclarationPathMismatch, IntegerOverflow, MalformedPubkey, NoSuchPath, NotDue}
-use Rattle.ast.specs.declared.KindFound.{KindFound}
 use Rattle.ast.specs.Tree.{number}
 
 abbrev pub targets : List Target
@@ -100,14 +98,9 @@ kinds = ListingTooLong ∷ MalformedLine ∷ UnexpectedLine ∷ CeilingPassed �
 
 -- the first of some kinds that has a number
 unfoldable pub kind_among : List ErrorKind → ℕ → Option ErrorKind
-kind_among [] n = none
-kind_among (k ∷ ks) n = elim (eqb (number k) n) [ true ↦ some k | false ↦ kind_among ks n ]
+kind_among [] n = None
+kind_among (k ∷ ks) n = elim (eqb (number k) n) [ true ↦ Some k | false ↦ kind_among ks n ]
 
 -- the kind of a number; none of a number that is no kind's
 unfoldable pub kind_from : ℕ → Option ErrorKind
 kind_from n = kind_among kinds n
-
--- a kind, as the code has it
-unfoldable pub found_kind : Option ErrorKind → KindFound
-found_kind none = KindFound.Nothing
-found_kind (some k) = KindFound.Kind k

@@ -2,7 +2,7 @@
  *
  * Link with libbithoven_examiner.a (x86-64; `tools/build bithoven_examiner` writes it to target/staticlib/).
  *
- * STACK. A call takes up to 1.21 MB of stack, 64 KiB of it for work memory: make it on a thread that has 2 MB or more.
+ * STACK. A call takes up to 0.19 MB of stack, 64 KiB of it for work memory: make it on a thread that has 2 MB or more.
  * Nothing checks this at run time. docs/ARCHITECTURE.md says what was measured.
  *
  * No function allocates, keeps state, or reads or writes anything but its arguments; all may be called from several threads

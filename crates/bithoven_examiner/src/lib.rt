@@ -10,7 +10,7 @@ ghost use Rattle.examiner.specs.Lent.{output_after};
 ghost use Rattle.examiner.specs.Name.{name as name_of};
 ghost use Rattle.answers.specs.Numbers.{numbers_of, place_numbers};
 
-use answers::{answer_number, put_answer};
+use answers::numbers_of;
 use examiner::check;
 use examiner::name::name_place;
 use examiner::report::report;
@@ -25,8 +25,7 @@ pub extern "C" fn bithoven_check(listing: &[u8], answer: &mut [u32; 5]) -> u32
     ensures variant { (result ≡ 0) ↔ InOrder listing.now work_words }
 {
     let mut work: [u32; 16384] = [0; 16384];
-    let c = check(listing, &mut work);
-    put_answer(answer, c);
+    *answer = numbers_of(check(listing, &mut work));
     answer[0]
 }
 
@@ -40,8 +39,7 @@ pub extern "C" fn bithoven_report(listing: &[u8], output: &mut [u8], answer: &mu
 {
     let mut work: [u32; 16384] = [0; 16384];
     let r = report(listing, &mut work, output);
-    let c = r.answer;
-    put_answer(answer, c);
+    *answer = numbers_of(r.answer);
     r.length
 }
 
@@ -58,9 +56,13 @@ pub extern "C" fn bithoven_name(
     ensures place_after { place.new ≡ place_numbers (name_of listing.now work_words path position) }
 {
     let mut work: [u32; 16384] = [0; 16384];
-    let n = name_place(listing, &mut work, path, position);
-    let x = n.place;
-    *place = [x.at as u32, x.len as u32];
-    let c = n.answer;
-    answer_number(c)
+    *place = [0; 2];
+    match name_place(listing, &mut work, path, position) {
+        Ok(Some(x)) => {
+            *place = [x.at as u32, x.len as u32];
+            0
+        }
+        Ok(None) => 0,
+        Err(x) => x.kind.into(),
+    }
 }

@@ -9,7 +9,6 @@ use records::{ReadError, Tally, print_cut_short, read_bytes, read_end, read_head
 use std::fs::File;
 use std::io;
 use std::io::Read;
-use verdicts::Verdict;
 
 // A listing has at most 32 paths, and a path 32 items; one more of each is asked for.
 const ASKED: u32 = 33;
@@ -23,10 +22,6 @@ const LONGEST: usize = 32768;
 // The room for a report.
 const OUTPUT_BYTES: usize = 65536;
 
-fn is_accepted(verdict: Verdict) -> bool {
-    matches!(verdict, Verdict::Accepted)
-}
-
 // The report of a listing. Is it accepted?
 fn print_report(rt: &(impl Print + AllocGlobal), listing: &[u8]) -> io::Result<bool> {
     let mut work = [0u32; 16384];
@@ -34,7 +29,7 @@ fn print_report(rt: &(impl Print + AllocGlobal), listing: &[u8]) -> io::Result<b
     let reported = examiner::report::report(listing, &mut work, &mut output);
     output.truncate(reported.length);
     rt.write_all(&output)?;
-    Ok(is_accepted(reported.answer))
+    Ok(reported.answer.is_ok())
 }
 
 // The names of a path's items, from the top.

@@ -1,1 +1,1 @@
-mod Decimals
+pub mod Pushed

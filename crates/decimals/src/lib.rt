@@ -1,139 +1,105 @@
-// Fields that are signed numbers of 64 bits.
+// Fields that are numbers in decimal digits, and signed numbers of 64 bits.
 #![tactic(auto)]
 
-ghost use Rattle.std.specs.Prelude.{◌≡◌, true, false, ◌+◌, ◌*◌, leb};
-ghost use Rattle.text.specs.declared.SignedRead.{SignedRead};
-ghost use Rattle.text.specs.Text.{read_at, digits, capped, up_to, after_minus, unsigned, sign, signed};
-ghost use Rattle.decimals.specs.declared.DecimalRead.{DecimalRead};
-ghost use Rattle.decimals.specs.declared.Pushed.{Pushed};
+ghost use Rattle.std.specs.Prelude.{◌≡◌, ◌≤◌, ◌+◌, ◌*◌, nat_le, if◌then◌else◌, IfSome};
+ghost use Rattle.text.specs.Text.{read, digits, capped, up_to, after_minus, unsigned, sign, signed};
 
 use ast::Signed;
-use text::{COMMA, SignedRead, Skipped, is_digit, skip, wide};
+use text::{COMMA, Cursor, digit};
 
-// A number with one more digit, or past its limit.
-#[derive(Clone, Copy)]
-pub enum Pushed {
-    Fits(u64),
-    Over,
-}
-
-// What the reader of a number gives: its value and the position after it, or nothing.
-#[derive(Clone, Copy)]
-pub enum DecimalRead {
-    Got(u64, usize),
-    Failed,
-}
-
-const MINUS: u8 = 45;
+// The largest magnitude of a number below zero; of one that is not, it is one less.
+const MAX_NEGATIVE: u64 = 9223372036854775808;
 
 // One more decimal digit `d` after `v`, if the number stays within the limit.
-pub fn push_digit(v: u64, d: u64, limit: u64) -> Pushed
-    ensures { result ≡ elim (leb (v * 10 + d) limit) [ true ↦ Pushed.Fits (v * 10 + d) | false ↦ Pushed.Over ] }
+pub fn push_digit(v: u64, d: u64, limit: u64) -> Option<u64>
+    ensures { result ≡ (if nat_le (v * 10 + d) limit then Some (v * 10 + d) else None) }
 {
-    if limit / 10 < v {
-        return Pushed::Over;
-    }
-    let tens = v * 10;
-    if limit - tens < d {
-        return Pushed::Over;
-    }
-    Pushed::Fits(tens + d)
+    let next = v.checked_mul(10)?.checked_add(d)?;
+    if next <= limit { Some(next) } else { None }
 }
 
-// The digits from `at` on, after the number `first`.
-pub fn more_digits(listing: &[u8], at: usize, first: u64, limit: u64) -> DecimalRead
-    ensures { result ≡ read_at DecimalRead.Got DecimalRead.Failed (capped limit (digits first)) listing.now at }
+// The digits from here on, after the number `first`.
+pub fn more_digits(c: Cursor, first: u64, limit: u64) -> Option<(u64, Cursor)>
+    ensures value { result ≡ read (capped limit (digits first)) c.entry }
+    ensures within { IfSome result (λ p. p.0 ≤ limit) }
 {
     if limit < first {
-        return DecimalRead::Failed;
+        return None;
     }
+    let rest = c.rest();
     let mut v = first;
-    let mut i = at;
-    while i < listing.len() {
-        let b = listing[i];
-        if !is_digit(b) {
-            return DecimalRead::Got(v, i);
-        }
-        let Pushed::Fits(next) = push_digit(v, wide(b) - 48, limit) else {
-            return DecimalRead::Failed;
+    for (k, &b) in rest.iter().enumerate() {
+        let Some(n) = digit(b) else {
+            return Some((v, Cursor { at: c.at + k, ..c }));
         };
-        v = next;
-        i += 1;
+        v = push_digit(v, n, limit)?;
     }
-    DecimalRead::Got(v, i)
+    Some((
+        v,
+        Cursor {
+            at: c.at + rest.len(),
+            ..c
+        },
+    ))
 }
 
 // A number from 0 to the limit: no plus sign, no leading zero.
-pub fn read_decimal(listing: &[u8], at: usize, limit: u64) -> DecimalRead
-    ensures { result ≡ read_at DecimalRead.Got DecimalRead.Failed (up_to limit) listing.now at }
+pub fn read_decimal(c: Cursor, limit: u64) -> Option<(u64, Cursor)>
+    ensures value { result ≡ read (up_to limit) c.entry }
+    ensures within { IfSome result (λ p. p.0 ≤ limit) }
 {
-    if listing.len() <= at {
-        return DecimalRead::Failed;
+    let first = digit(*c.listing.get(c.at)?)?;
+    let next = Cursor { at: c.at + 1, ..c };
+    if first == 0 {
+        return Some((0, next));
     }
-    let b = listing[at];
-    if b == 48 {
-        return DecimalRead::Got(0, at + 1);
-    }
-    if is_digit(b) {
-        return more_digits(listing, at + 1, wide(b) - 48, limit);
-    }
-    DecimalRead::Failed
+    more_digits(next, first, limit)
 }
 
 // What follows a minus sign: at most 2^63, no zero.
-pub fn read_after_minus(listing: &[u8], at: usize) -> SignedRead
-    ensures { result ≡ read_at SignedRead.Got SignedRead.Failed after_minus listing.now at }
+pub fn read_after_minus(c: Cursor) -> Option<(Signed, Cursor)>
+    ensures { result ≡ read after_minus c.entry }
 {
-    let DecimalRead::Got(v, n) = read_decimal(listing, at, 9223372036854775808) else {
-        return SignedRead::Failed;
-    };
-    if 0 < v {
-        return SignedRead::Got(
-            Signed {
-                negative: true,
-                magnitude: v,
-            },
-            n,
-        );
+    let (magnitude, c) = read_decimal(c, MAX_NEGATIVE)?;
+    if magnitude == 0 {
+        return None;
     }
-    SignedRead::Failed
+    Some((
+        Signed {
+            negative: true,
+            magnitude,
+        },
+        c,
+    ))
 }
 
 // A number with no sign: at most 2^63 - 1.
-pub fn read_unsigned(listing: &[u8], at: usize) -> SignedRead
-    ensures { result ≡ read_at SignedRead.Got SignedRead.Failed unsigned listing.now at }
+pub fn read_unsigned(c: Cursor) -> Option<(Signed, Cursor)>
+    ensures { result ≡ read unsigned c.entry }
 {
-    let DecimalRead::Got(v, n) = read_decimal(listing, at, 9223372036854775807) else {
-        return SignedRead::Failed;
-    };
-    SignedRead::Got(
+    let (magnitude, c) = read_decimal(c, MAX_NEGATIVE - 1)?;
+    Some((
         Signed {
             negative: false,
-            magnitude: v,
+            magnitude,
         },
-        n,
-    )
+        c,
+    ))
 }
 
 // With a minus sign or without.
-pub fn read_sign(listing: &[u8], at: usize) -> SignedRead
-    ensures { result ≡ read_at SignedRead.Got SignedRead.Failed sign listing.now at }
+pub fn read_sign(c: Cursor) -> Option<(Signed, Cursor)>
+    ensures { result ≡ read sign c.entry }
 {
-    if listing.len() <= at {
-        return SignedRead::Failed;
+    match c.skip(b'-') {
+        Some(after) => read_after_minus(after),
+        None => read_unsigned(c),
     }
-    if listing[at] == MINUS {
-        return read_after_minus(listing, at + 1);
-    }
-    read_unsigned(listing, at)
 }
 
 // A field that is a signed number of 64 bits.
-pub fn read_signed(listing: &[u8], at: usize) -> SignedRead
-    ensures { result ≡ read_at SignedRead.Got SignedRead.Failed signed listing.now at }
+pub fn read_signed(c: Cursor) -> Option<(Signed, Cursor)>
+    ensures { result ≡ read signed c.entry }
 {
-    let Skipped::To(n) = skip(listing, at, COMMA) else {
-        return SignedRead::Failed;
-    };
-    read_sign(listing, n)
+    read_sign(c.skip(COMMA)?)
 }

@@ -23,38 +23,42 @@ use Rattle.reader.proofs.Agree.{block_on}
 use Rattle.nodes.specs.declared.Head.{Head}
 use Rattle.nodes.specs.Stands.{Holds}
 use Rattle.declarations.specs.declared.Declared.{Declared}
-use Rattle.declarations.specs.Noted.{items_said, after_items, declaration_row, noted, declared_by, declared_in}
-use Rattle.declarations.specs.Items.{ContractAt, DeclaredAs}
+use Rattle.names.specs.declared.ItemRows.{ItemRows}
+use Rattle.declarations.specs.Noted.{items_said, after_items, declaration_row, rows_below, noted, declared_by, declared_in}
+use Rattle.declarations.specs.Items.{no_items, item_rows, ContractAt, DeclaredAs}
 use Rattle.reader.proofs.Items.{declarations-count}
 use Rattle.declarations.proofs.Standing.{head-said, said, row_more, At, declaration-at, declarations-end}
 
 -- ---- notes of declarations
 
-noted-full : (f : ℕ → ℕ) (n : ℕ) → length (noted f n) ≡ max_declarations
+noted-full : (f : ℕ → ItemRows) (n : ℕ) → length (noted f n) ≡ max_declarations
 unfolding noted
 noted-full f zero = refl
 noted-full f (suc n) = length-set (noted f n) n (f n) ∙ noted-full f n
 
-noted-at : (f : ℕ → ℕ) (n p : ℕ) → p < n → n ≤ max_declarations → get_or (noted f n) p 0 ≡ f p
+noted-at : (f : ℕ → ItemRows) (n p : ℕ) → p < n → n ≤ max_declarations → get_or (noted f n) p no_items ≡ f p
 unfolding noted
 noted-at f zero p lt few = absurd (omega arith)
 noted-at f (suc n) p lt few = go (eqb p n) refl (noted-at f n p)
   where
-    go : (b : Bool) → eqb p n ≡ b → (p < n → n ≤ max_declarations → get_or (noted f n) p 0 ≡ f p) → get_or (set (noted f n) n (f n)) p 0 ≡ f p
-    go true e ih = rw (eqb-true p n e) (get_or-set_same (noted f n) n (f n) 0 (omega (arith, noted-full f n)))
-    go false e ih = let o = eqb-false p n e in get_or-set_other (noted f n) n p (f n) 0 o ∙ ih (omega arith) (omega arith)
+    go : (b : Bool) → eqb p n ≡ b → (p < n → n ≤ max_declarations → get_or (noted f n) p no_items ≡ f p) → get_or (set (noted f n) n (f n)) p no_items ≡ f p
+    go true e ih = rw (eqb-true p n e) (get_or-set_same (noted f n) n (f n) no_items (omega (arith, noted-full f n)))
+    go false e ih = let o = eqb-false p n e in get_or-set_other (noted f n) n p (f n) no_items o ∙ ih (omega arith) (omega arith)
 
-pub noted_more : (f : ℕ → ℕ) (p : ℕ) {xs : List ℕ} {v : ℕ} → xs ≡ noted f p → v ≡ f p → set xs p v ≡ noted f (p + 1)
+pub noted_more : (f : ℕ → ItemRows) (p : ℕ) {xs : List ItemRows} {v : ItemRows} → xs ≡ noted f p → v ≡ f p → set xs p v ≡ noted f (p + 1)
 unfolding noted
 noted_more f p e q = rw (add-one p, e, q)
+
+pub rows_next : (L : ℕ → Line) {i at m : ℕ} → at ≡ i → L at ≡ Line.Declaration m → record { first = at + 1; count = m } ≡ rows_below L i
+rows_next L {i} {at} {m} e q = rw (sym (said q)) (ap (rows_below L) e)
 
 pub row_next : (L : ℕ → Line) (p : ℕ) {at m : ℕ} → at ≡ declaration_row L p → L at ≡ Line.Declaration m → at + 1 + m ≡ declaration_row L (p + 1)
 unfolding after_items
 row_next L p {at} {m} e q = ap (λ k. at + 1 + k) (sym (said q)) ∙ ap (after_items L) e ∙ sym (row_more L first_declaration p) ∙ ap (declaration_row L) (sym (add-one p))
 
-pub all_noted : (L : ℕ → Line) {g : Target} {m p at : ℕ} {firsts counts : List ℕ} → L 0 ≡ Line.Contract g m → p ≡ m → firsts ≡ noted (λ p. declaration_row L p + 1) p → counts ≡ noted (λ p. items_said (L (declaration_row L p))) p → at ≡ declaration_row L p → record { target = g; count = m; firsts = firsts; counts = counts; block = at } ≡ declared_in L
+pub all_noted : (L : ℕ → Line) {g : Target} {m p at : ℕ} {items : List ItemRows} → L 0 ≡ Line.Contract g m → p ≡ m → items ≡ noted (λ p. rows_below L (declaration_row L p)) p → at ≡ declaration_row L p → record { target = g; count = m; items = items; block = at } ≡ declared_in L
 unfolding declared_by
-all_noted L header e f k a = rw (f, k, a, e) (ap (λ h. declared_by h L) (sym (head-said header)))
+all_noted L header e i a = rw (i, a, e) (ap (λ h. declared_by h L) (sym (head-said header)))
 
 -- what is noted, for declarations that the rows spell
 module _ (L : ℕ → Line) (A : Type 0) (make : Location → ItemType → Place → A) {g : Target} {m upto : ℕ} {ds : List (List A)} (header : L 0 ≡ Line.Contract g m) (few : m ≤ max_declarations) (sp : SpellsDeclarations L A make m first_declaration ds upto) {d : Declared} (e : d ≡ declared_in L) where
@@ -77,18 +81,20 @@ module _ (L : ℕ → Line) (A : Type 0) (make : Location → ItemType → Place
     here : At L A make (declaration_row L p) (get_or ds p []) upto
     here = declaration-at L A make sp p lt
 
-    first-is : get_or d.firsts p 0 ≡ declaration_row L p + 1
+    rows-are : item_rows d p ≡ rows_below L (declaration_row L p)
     unfolding declared_by
-    first-is = ap (λ d. get_or d.firsts p 0) is ∙ noted-at (λ p. declaration_row L p + 1) m p lt few
+    rows-are = ap (λ d. item_rows d p) is ∙ noted-at (λ p. rows_below L (declaration_row L p)) m p lt few
 
-    items-are : get_or d.counts p 0 ≡ items_said (L (declaration_row L p))
-    unfolding declared_by
-    items-are = ap (λ d. get_or d.counts p 0) is ∙ noted-at (λ p. items_said (L (declaration_row L p))) m p lt few
+    first-is : (item_rows d p).first ≡ declaration_row L p + 1
+    first-is = ap (λ r. r.first) rows-are
 
-    pub items_of : SpellsItems L A make (get_or d.counts p 0) (get_or d.firsts p 0) (get_or ds p []) (get_or d.firsts p 0 + get_or d.counts p 0)
+    items-are : (item_rows d p).count ≡ items_said (L (declaration_row L p))
+    items-are = ap (λ r. r.count) rows-are
+
+    pub items_of : SpellsItems L A make (item_rows d p).count (item_rows d p).first (get_or ds p []) ((item_rows d p).first + (item_rows d p).count)
     items_of = rw (first-is, items-are) here.items
 
-    pub items-within : get_or d.firsts p 0 + get_or d.counts p 0 ≤ upto
+    pub items-within : (item_rows d p).first + (item_rows d p).count ≤ upto
     items-within = rw (first-is, items-are) here.within
 
 -- ---- a contract in rows
@@ -154,7 +160,7 @@ module _ {s t : List ℕ} {n : ℕ} (st : ContractAt s t n) where
       count : d.count ≡ Q.count
       count = count-is (line_in t) StackParam (item s) Q.header few Q.spells e
 
-      items-few : (p : ℕ) → p < Q.count → get_or d.counts p 0 ≤ max_items
+      items-few : (p : ℕ) → p < Q.count → (item_rows d p).count ≤ max_items
       items-few p lt =
           let a = declaration-at (line_in t) StackParam (item s) Q.spells p lt in
           omega (arith, items-are (line_in t) StackParam (item s) Q.header few Q.spells e p lt, row-few (omega (arith, a.within, block_on (line_in t) s Q.block)) a.line)

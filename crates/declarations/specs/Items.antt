@@ -7,6 +7,15 @@ use Rattle.reader.specs.Reading.{item}
 use Rattle.reader.specs.Spells.{SpellsItems, SpellsBlock, SpellsContract}
 use Rattle.nodes.specs.Stands.{Rows}
 use Rattle.declarations.specs.declared.Declared.{Declared}
+use Rattle.names.specs.declared.ItemRows.{ItemRows}
+
+-- the rows of no items
+abbrev pub no_items : ItemRows
+no_items = record { first = 0; count = 0 }
+
+-- the rows of the items of declaration p
+abbrev pub item_rows : Declared → ℕ → ItemRows
+item_rows d p = get_or d.items p no_items
 
 -- a contract stands in the first n rows of a table, each within its ceilings
 pub record ContractAt (s t : List ℕ) (n : ℕ) : Type 0 where
@@ -15,11 +24,11 @@ pub record ContractAt (s t : List ℕ) (n : ℕ) : Type 0 where
   pub rows : Rows s t n
   pub fits : (k : ℕ) → k < n → within_ceilings (line_in t k) ≡ true
 
--- the items of declaration p: where the first of them stands, and how many there are; they end before row n
+-- the items of declaration p stand in its rows, which end before row n
 pub record Items (s t : List ℕ) (d : Declared) (c : Contract) (n p : ℕ) : Type 0 where
-  pub spells : SpellsItems (line_in t) StackParam (item s) (get_or d.counts p 0) (get_or d.firsts p 0) (get_or c.declarations p []) (get_or d.firsts p 0 + get_or d.counts p 0)
-  pub few : get_or d.counts p 0 ≤ max_items
-  pub within : get_or d.firsts p 0 + get_or d.counts p 0 ≤ n
+  pub spells : SpellsItems (line_in t) StackParam (item s) (item_rows d p).count (item_rows d p).first (get_or c.declarations p []) ((item_rows d p).first + (item_rows d p).count)
+  pub few : (item_rows d p).count ≤ max_items
+  pub within : (item_rows d p).first + (item_rows d p).count ≤ n
 
 -- the declarations of the contract c, and where its block stands; the rows end before n
 pub record DeclaredAs (s t : List ℕ) (d : Declared) (c : Contract) (n : ℕ) : Type 0 where

@@ -1,5 +1,5 @@
 -- What the rows say of the declarations, and the items that they declare.
-use Rattle.std.specs.Prelude.{ℕ, zero, suc, ◌+◌, List, [], reverse, ◌≡◌, get_or, set, replicate}
+use Rattle.std.specs.Prelude.{ℕ, zero, suc, ◌+◌, Option as StdOption, Some, None, List, [], reverse, ◌≡◌, get_or, set, replicate}
 use Rattle.std.proofs.Math.Option.{Option, some, none}
 use Rattle.std.proofs.Math.ListN.{get_elem?}
 use Rattle.ast.specs.declared.Location.{Location}
@@ -15,7 +15,8 @@ use Rattle.reader.specs.Spells.{SpellsDeclarations, first_declaration}
 use Rattle.nodes.specs.declared.Head.{Head}
 use Rattle.names.specs.declared.Item.{Item}
 use Rattle.declarations.specs.declared.Declared.{Declared}
-use Rattle.declarations.specs.declared.ItemFound.{ItemFound}
+use Rattle.names.specs.declared.ItemRows.{ItemRows}
+use Rattle.declarations.specs.Items.{no_items}
 
 -- what the T line says; another line says no declarations
 unfoldable pub head_of : Line → Head
@@ -38,17 +39,20 @@ row_past L i (suc p) = row_past L (after_items L i) p
 abbrev pub declaration_row : (ℕ → Line) → ℕ → ℕ
 declaration_row L p = row_past L first_declaration p
 
--- f of the first n declarations, and zero past them
-unfoldable pub noted : (ℕ → ℕ) → ℕ → List ℕ
-noted f zero = replicate max_declarations 0
+-- the rows of the items of the declaration at row i
+abbrev pub rows_below : (ℕ → Line) → ℕ → ItemRows
+rows_below L i = record { first = i + 1; count = items_said (L i) }
+
+-- f of the first n declarations, and none past them
+unfoldable pub noted : (ℕ → ItemRows) → ℕ → List ItemRows
+noted f zero = replicate max_declarations no_items
 noted f (suc p) = set (noted f p) p (f p)
 
 unfoldable pub declared_by : Head → (ℕ → Line) → Declared
 declared_by h L = record {
   target = h.target;
   count = h.declarations;
-  firsts = noted (λ p. declaration_row L p + 1) h.declarations;
-  counts = noted (λ p. items_said (L (declaration_row L p))) h.declarations;
+  items = noted (λ p. rows_below L (declaration_row L p)) h.declarations;
   block = declaration_row L h.declarations;
 }
 
@@ -73,6 +77,6 @@ unfoldable pub item_at : {A : Type 0} → List (List A) → ℕ → ℕ → Opti
 item_at ps path position = get_elem? (reverse (get_or ps path [])) position
 
 -- an item, as the code has it
-unfoldable pub found : Option Item → ItemFound
-found none = ItemFound.Nothing
-found (some x) = ItemFound.Item x
+abbrev pub found : Option Item → StdOption Item
+found none = None
+found (some x) = Some x

@@ -10,70 +10,53 @@ ghost use Rattle.declarations.specs.Noted.{declared_in, Declares, item_at, found
 ghost use Rattle.declarations.specs.Items.{ContractAt, DeclaredAs};
 
 use ast::Target;
-use names::{Item, item_at};
+use names::{Item, ItemRows, item_at};
 use nodes::{FIRST_DECLARATION, contract_at, declaration_at};
+use rows::Rows;
 
-// The target, and for each declaration the row of its first item and the count of its items; the row of the block.
+// The target, how many declarations there are, the rows of the items of each, and the row of the block.
 #[derive(Clone, Copy)]
 pub struct Declared {
     pub target: Target,
     pub count: u32,
-    pub firsts: [u32; 32],
-    pub counts: [u32; 32],
+    pub items: [ItemRows; 32],
     pub block: u32,
 }
 
-// An item that is looked up.
-#[derive(Clone, Copy)]
-pub enum ItemFound {
-    Item(Item),
-    Nothing,
-}
-
 // The declarations of a contract that stands in n rows.
-pub fn declarations(listing: &[u8], table: &[u32], n: usize) -> Declared
-    requires { ContractAt listing.now table.now n }
-    ensures value { result ≡ declared_in (line_in table.now) }
-    ensures declared_as { (c : Contract) → SpellsContract (line_in table.now) listing.now c n → DeclaredAs listing.now table.now result c n }
+pub fn declarations(rows: &Rows<'_>, n: usize) -> Declared
+    requires { ContractAt rows.now.listing.now rows.now.table.now n }
+    ensures value { result ≡ declared_in (line_in rows.now.table.now) }
+    ensures declared_as { (c : Contract) → SpellsContract (line_in rows.now.table.now) rows.now.listing.now c n → DeclaredAs rows.now.listing.now rows.now.table.now result c n }
 {
-    let head = contract_at(table, 0);
-    let target = head.target;
-    let count = head.declarations;
-    let mut firsts: [u32; 32] = [0; 32];
-    let mut counts: [u32; 32] = [0; 32];
+    let head = contract_at(rows.table, 0);
+    let mut items = [ItemRows { first: 0, count: 0 }; 32];
     let mut at = FIRST_DECLARATION;
-    let mut p: u32 = 0;
-    while p < count {
-        let items = declaration_at(table, at as usize);
-        firsts[p as usize] = at + 1;
-        counts[p as usize] = items;
-        at = at + 1 + items;
-        p += 1;
+    for p in 0..head.declarations {
+        let count = declaration_at(rows.table, at as usize);
+        let first = at + 1;
+        items[p as usize] = ItemRows { first, count };
+        at = first + count;
     }
     Declared {
-        target,
-        count,
-        firsts,
-        counts,
+        target: head.target,
+        count: head.declarations,
+        items,
         block: at,
     }
 }
 
 // The item at a position of a path, from the top: the last of a declaration's rows is the top.
-pub fn item_in(table: &[u32], d: Declared, path: u32, position: u32) -> ItemFound
+pub fn item_in(table: &[u32], d: Declared, path: u32, position: u32) -> Option<Item>
     requires { (d ≡ declared_in (line_in table.now)) × ((s : List ℕ) × (n : ℕ) × ContractAt s table.now n) }
     ensures { (ps : List (List Item)) → Declares table.now ps → result ≡ found (item_at ps path position) }
 {
     if d.count <= path {
-        return ItemFound::Nothing;
+        return None;
     }
-    let counts = d.counts;
-    let count = counts[path as usize];
-    if count <= position {
-        return ItemFound::Nothing;
+    let items = d.items[path as usize];
+    if items.count <= position {
+        return None;
     }
-    let firsts = d.firsts;
-    let first = firsts[path as usize];
-    let item = item_at(table, (first + (count - 1 - position)) as usize);
-    ItemFound::Item(item)
+    Some(item_at(table, items.row_at(position)))
 }

@@ -6,7 +6,7 @@ use mathlib.Core.Option
 use mathlib.Core.Option.{Option, some, none}
 use mathlib.Core.Path.{◌≡◌, refl, sym, ap, ◌∙◌, subst}
 use borrow.Author.Tests.{le-leb}
-use lib.ListN.{length, take, drop, get_or, get_elem?}
+use lib.ListN.{take, drop, get_or, get_elem?}
 use Rattle.ast.specs.declared.Target.{Target}
 use Rattle.ast.specs.declared.CompileError.{CompileError}
 use Rattle.ast.specs.Tree.{StackParam, Contract, from_top}
@@ -15,36 +15,32 @@ use Rattle.text.specs.Text.{part}
 use Rattle.listing.specs.declared.Line.{Line}
 use Rattle.listing.specs.Kinds.{contract_line}
 use Rattle.listing.proofs.OfKind.{of-kind, contract-kind}
+use Rattle.rules.specs.Result.{Result, Checked, answer}
 use Rattle.rules.specs.Analyze.{analyze}
+use Rattle.rules.proofs.Basics.{Ok-injective}
 use Rattle.rows.specs.Rows.{line_in}
-use Rattle.rows.specs.Work.{cleared}
-use Rattle.reading.specs.Held.{ListingRead}
-use Rattle.std.specs.Prelude.{Ok, Err}
+use Rattle.std.specs.Prelude.{Ok, Err, Some, None, Option as StdOption, IsErrAnd}
+use Rattle.std.proofs.lemmas.Result.{err_from_is_err_and}
 use Rattle.reader.specs.Ceilings.{max_bytes, max_lines}
 use Rattle.reader.specs.Source.{Source, source, Read, read, refused}
 use Rattle.reader.specs.Reading.{item, declarations, read_listing}
 use Rattle.reader.specs.Spells.{SpellsDeclarations, SpellsContract, first_declaration, start, step, lines_of}
-use Rattle.reading.specs.Held.{Spelled, listing_read, work_read}
+use Rattle.reading.specs.Held.{Spelled}
 use Rattle.reader.proofs.Parts.{Accepts, refused≢read, after, accepts, accept-opens}
 use Rattle.reader.proofs.Agree.{declarations-on, block_on, declarations-agree, contract-agrees}
 use Rattle.reader.proofs.Spelling.{lists, declarations-give}
 use Rattle.reader.proofs.Naming.{map_read, declarations-map, place_reading, places-named}
 use Rattle.names.specs.declared.Item.{Item}
 use Rattle.names.specs.Items.{Inside}
-use Rattle.declarations.specs.declared.ItemFound.{ItemFound}
 use Rattle.declarations.specs.Items.{ContractAt}
 use Rattle.declarations.specs.Noted.{row_past, whole_item, Declares, item_at as item_from, found}
 use Rattle.declarations.proofs.Standing.{declarations-end}
 use Rattle.declarations.proofs.Looking.{item-at-map, found-is, found-not, item-inside}
-use Rattle.verdicts.specs.declared.Verdict.{Verdict}
-use Rattle.examiner.specs.declared.name.Named.{Named}
-use Rattle.verdicts.specs.Verdicts.{verdict}
-use Rattle.examiner.specs.Check.{check}
+use Rattle.examiner.specs.Check.{examine, check}
 use Rattle.examiner.specs.InOrder.{Accepted}
-use Rattle.examiner.specs.Lent.{work_after}
-use Rattle.examiner.specs.Name.{items_of, items, item_at, if_accepted, name_of, place_or, name, named, name_bytes}
+use Rattle.examiner.specs.Name.{items_of, items, item_at, if_accepted, name_of, name, place_in, named_by, named, name_bytes}
 use Rattle.examiner.proofs.Demand3.{Holds}
-use Rattle.examiner.proofs.Checking.{check-refused, work-refused, check-read, work-read, rows-enough, may-check}
+use Rattle.examiner.proofs.Checking.{check-is}
 
 -- ---- the items that a listing declares
 
@@ -108,80 +104,64 @@ module _ (s t : List ℕ) (n : ℕ) (h : Spelled s t n) where
 
 -- ---- the place of an item's name
 
--- none and some, as the code has them
-no_place : {r : Place} {o : Option Place} → r ≡ record { at = 0; len = 0 } → o ≡ none → r ≡ place_or o
-unfolding place_or
-no_place e f = e ∙ sym (ap place_or f)
+-- an item that is looked up, as the code has it
+pub place-found : (o : Option Item) {x : Item} → Some x ≡ found o → Some x.name ≡ place_in o
+place-found o e = sym (ap place_in (found-is o e))
 
-pub found-place : (o : Option Item) {x : Item} → ItemFound.Item x ≡ found o → x.name ≡ place_or (name_of o)
-unfolding place_or
-found-place o e = sym (ap (λ o. place_or (name_of o)) (found-is o e))
+pub place-none : (o : Option Item) → None ≡ found o → None ≡ place_in o
+place-none o e = sym (ap place_in (found-not o e))
 
-pub nothing-found : (o : Option Item) {r : Place} → ItemFound.Nothing ≡ found o → r ≡ record { at = 0; len = 0 } → r ≡ place_or (name_of o)
-nothing-found o e f = no_place f (ap name_of (found-not o e))
+-- by Check's answer
+pub named-err : {c : Checked} (o : Option Item) {x : CompileError} (r : Result (StdOption Place)) → c ≡ Err x → IsErrAnd r (λ y. y ≡ x) → r ≡ named_by c o
+named-err o r e f = let (y, k, l) = err_from_is_err_and r f in k ∙ ap Err l ∙ sym (ap (λ c. named_by c o) e)
 
--- by any answer
-abbrev named_by : Verdict → Option Item → Named
-named_by a o = record { answer = a; place = place_or (name_of (if_accepted a o)) }
-
-module _ (o : Option Item) where
-  pub accepted-place : {r : Place} {a : Verdict} → a ≡ Verdict.Accepted → r ≡ place_or (name_of o) → r ≡ place_or (name_of (if_accepted a o))
-  unfolding if_accepted
-  accepted-place e f = f ∙ sym (ap (λ a. place_or (name_of (if_accepted a o))) e)
-
-  pub refused-place : {r : Place} {a : Verdict} {x : CompileError} → a ≡ Verdict.Refused x → r ≡ record { at = 0; len = 0 } → r ≡ place_or (name_of (if_accepted a o))
-  unfolding if_accepted
-  refused-place e f = no_place f (ap (λ a. name_of (if_accepted a o)) e)
-
-  pub named-by : {r : Place} {a b : Verdict} → a ≡ b → r ≡ place_or (name_of (if_accepted a o)) → record { answer = a; place = r } ≡ named_by b o
-  named-by {r} {a} e f = ap (λ r. record { answer = a; place = r }) f ∙ ap (λ a. named_by a o) e
+pub named-ok : {c : Checked} (o : Option Item) {p : StdOption Place} → c ≡ Ok tt → p ≡ place_in o → Ok p ≡ named_by c o
+named-ok o e f = ap Ok f ∙ sym (ap (λ c. named_by c o) e)
 
 -- it lies in the listing
-place_inside : {s t : List ℕ} {n : ℕ} {ps : List (List Item)} → ContractAt s t n → Declares t ps → (path k : ℕ) (a : Verdict) → Inside s (place_or (name_of (if_accepted a (item_from ps path k))))
-unfolding if_accepted place_or
-place_inside {s} {t} {n} {ps} st h path k Verdict.Accepted = go (item_from ps path k) refl
+place_inside : {s t : List ℕ} {n : ℕ} {ps : List (List Item)} → ContractAt s t n → Declares t ps → (path k : ℕ) (c : Checked) (x : Place) → named_by c (item_from ps path k) ≡ Ok (Some x) → Inside s x
+place_inside {s} {t} {n} {ps} st h path k (Err y) x e = cc
+place_inside {s} {t} {n} {ps} st h path k (Ok _) x e = go (item_from ps path k) refl (Ok-injective e)
   where
-    go : (o : Option Item) → item_from ps path k ≡ o → Inside s (place_or (name_of o))
-    go none e = omega arith
-    go (some x) e = item-inside st refl h path k e
-place_inside st h path k (Verdict.Refused x) = omega arith
+    go : (o : Option Item) → item_from ps path k ≡ o → place_in o ≡ Some x → Inside s x
+    go none f g = cc
+    go (some y) f g = let same : y.name ≡ x = cc in subst (Inside s) same (item-inside st refl h path k f)
 
 -- ---- what Name answers
 
--- what Name promises of what it hands back, r, and of work at exit u
-abbrev pub Promised : List ℕ → List ℕ → ℕ → ℕ → Named → List ℕ → Type 0
-Promised s w path position r u = (r ≡ named s (length w) path position) × ((Inside s r.place × (r.place.at + r.place.len ≤ max_bytes)) × (u ≡ work_after w))
+-- what Name promises of what it hands back
+abbrev pub Promised : List ℕ → ℕ → ℕ → ℕ → Result (StdOption Place) → Type 0
+Promised s words path position r = (r ≡ named s words path position) × ((x : Place) → r ≡ Ok (Some x) → Inside s x × (x.at + x.len ≤ max_bytes))
 
-module _ (s w t : List ℕ) (path position : ℕ) {y : ListingRead} (answered : y ≡ listing_read s (length w)) (held : t ≡ work_read s w) where
-  pub refuses : {r : Place} (x : CompileError) → y ≡ Err x → r ≡ record { at = 0; len = 0 } → Promised s w path position (record { answer = Verdict.Refused x; place = r }) t
-  unfolding named name item_at if_accepted
-  refuses {r} x e f =
-      let h = sym answered ∙ e in
-      let a : r.at ≡ 0 = ap (λ r. r.at) f in
-      let l : r.len ≡ 0 = ap (λ r. r.len) f in
-      (named-by (item_at s path position) (check-refused s x (length w) h) (no_place f refl), ((omega arith, omega arith), held ∙ work-refused s x w h))
+module _ (s : List ℕ) (words path position : ℕ) where
+  pub refuses : {x : CompileError} → examine s words ≡ Err x → (r : Result (StdOption Place)) → IsErrAnd r (λ z. z ≡ x) → Promised s words path position r
+  unfolding named answer
+  refuses is r f =
+      let (z, k, l) = err_from_is_err_and r f in
+      (named-err (item_at s path position) r (check-is s words is) f, λ p g. let o : Err z ≡ Ok (Some p) = sym k ∙ g in cc)
 
-  module _ (n : ℕ) (e : y ≡ Ok n) (h : Spelled s t n) where
-    pub names : (r : Named) (u : List ℕ) → ((c : Contract) (ps : List (List Item)) → SpellsContract (line_in t) s c n → Declares t ps → r ≡ named_by (verdict (analyze c)) (item_from ps path position)) → u ≡ cleared t → Promised s w path position r u
-    unfolding named name item_at
-    names r u f g =
-        let enough = rows-enough s (length w) n (sym answered ∙ e) in
-        let st = (may-check s w t answered held n e h).0 in
-        let d = listing-declares s t n h in
-        let a = f h.contract (items s) h.spells d in
-        let inside : Inside s r.place = subst (λ r. Inside s r.place) (sym a) (place_inside st d path position (verdict (analyze h.contract))) in (
-          a ∙ ap (λ c. named_by c (item_at s path position)) (sym (check-read s w t n h enough)),
-          ((inside, omega (arith, st.rows.short)), g ∙ work-read s w t n h enough held),
-        )
+  pub names : {t : List ℕ} {n : ℕ} (c : Contract) → ContractAt s t n → Declares t (items s) → examine s words ≡ analyze c → (r : Result (StdOption Place)) → r ≡ named_by (answer (analyze c)) (item_from (items s) path position) → Promised s words path position r
+  unfolding named item_at
+  names c st d is r a = (
+    a ∙ ap (λ c. named_by c (item_at s path position)) (sym (check-is s words is)),
+    λ x o. let i = place_inside st d path position (answer (analyze c)) x (sym a ∙ o) in (i, omega (arith, i, st.rows.short)),
+  )
 
--- the bytes of the part that the place names
-pub part-named : (s : List ℕ) (words path position : ℕ) (r : Named) → r ≡ named s words path position → take (r.place.at + r.place.len - r.place.at) (drop r.place.at s) ≡ name_bytes s words path position
-unfolding part place_or named name_bytes
-part-named s words path position r e = let n : r.place.at + r.place.len - r.place.at ≡ r.place.len = omega arith in rw n (ap (λ r. part s r.place) e ∙ go (name s words path position) refl)
-  where
-    go : (o : Option Place) → name s words path position ≡ o → part s (place_or (name s words path position)) ≡ name_bytes s words path position
-    go none e = rw (e, name_bytes, place_or) refl
-    go (some x) e = rw (e, name_bytes, place_or) refl
+-- the bytes of the part that the place names, and no bytes where there is none
+module _ (s : List ℕ) (words path position : ℕ) {r : Result (StdOption Place)} (e : r ≡ named s words path position) where
+  go : (c : Checked) (o : Option Item) {q : Result (StdOption Place)} → q ≡ named_by c o → ((x : Place) → q ≡ Ok (Some x) → name_of (if_accepted c o) ≡ some x) × (((x : Place) → q ≡ Ok (Some x) → ⊥) → name_of (if_accepted c o) ≡ none)
+  unfolding if_accepted
+  go (Err y) o {q} e = (λ x f. let z : Err y ≡ Ok (Some x) = sym e ∙ f in cc, λ f. refl)
+  go (Ok _) none {q} e = (λ x f. let z : Ok None ≡ Ok (Some x) = sym e ∙ f in cc, λ f. refl)
+  go (Ok _) (some y) {q} e = (λ x f. let z : Ok (Some y.name) ≡ Ok (Some x) = sym e ∙ f in let o : y.name ≡ x = cc in ap some o, λ f. absurd (f y.name e))
+
+  pub part-named : (x : Place) {b : List ℕ} → r ≡ Ok (Some x) → b ≡ part s x → b ≡ name_bytes s words path position
+  unfolding named name name_bytes
+  part-named x f g = g ∙ rw ((go (check s words) (item_at s path position) e).0 x f, name_bytes) refl
+
+  pub none-named : ((x : Place) → r ≡ Ok (Some x) → ⊥) → [] ≡ name_bytes s words path position
+  unfolding named name name_bytes
+  none-named f = rw ((go (check s words) (item_at s path position) e).1 f, name_bytes) refl
 
 -- ---- what Name says of an accepted listing
 
@@ -210,6 +190,6 @@ accepted-name s words c path position (q, k) h =
     ∙ ap or_empty (sym (item-at-map (part s) (map (map (λ x. x.name)) (items s)) path position) ∙ ap (λ xs. item_from xs path position) (items-named s c q k) ∙ item-at-map (λ p. p.identifier) c.declarations path position)
 
 -- and an empty part if Check refuses
-pub refused-name : (s : List ℕ) (words : ℕ) (x : CompileError) (path position : ℕ) → check s words ≡ Verdict.Refused x → name s words path position ≡ none
+pub refused-name : (s : List ℕ) (words : ℕ) (x : CompileError) (path position : ℕ) → check s words ≡ Err x → name s words path position ≡ none
 unfolding name if_accepted
 refused-name s words x path position h = rw (h, name) refl

@@ -10,43 +10,37 @@ ghost use Rattle.reporting.specs.Text.{text_of};
 ghost use Rattle.verdicts.specs.Reports.{reported, written};
 ghost use Rattle.examiner.specs.Check.{check as check_of};
 ghost use Rattle.examiner.specs.Report.{report as report_of, opening};
+ghost use Rattle.examiner.specs.Examined.{Given};
 ghost use Rattle.examiner.specs.Lent.{work_after, output_after};
 
+use crate::examine;
 use analyze::analyze;
 use ast::ErrorKind;
-use declarations::{Declared, declarations};
-use reading::read_listing;
-use verdicts::{Reported, Verdict, report_acceptance, report_refusal, verdict_in, without_text};
+use declarations::Declared;
+use reporting::analyzed::Analyzed;
+use rows::Rows;
+use verdicts::{Reported, report_acceptance, report_refusal, without_text};
 
 const WORK_WORDS: usize = 16384;
 
 // The contract in n rows, analyzed and reported.
-fn report_table(listing: &[u8], table: &[u32], n: usize, d: Declared, output: &mut [u8]) -> Reported
-    requires { ContractAt listing.now table.now n × ((c : Contract) → SpellsContract (line_in table.now) listing.now c n → DeclaredAs listing.now table.now d c n) }
-    ensures value { (c : Contract) → SpellsContract (line_in table.now) listing.now c n → result ≡ reported (analyze_of c) (length output.old) }
-    ensures output_after { (c : Contract) → SpellsContract (line_in table.now) listing.now c n → output.new ≡ written (text_of (analyze_of c)) output.old }
+fn report_table(rows: &Rows<'_>, n: usize, d: Declared, output: &mut [u8]) -> Reported
+    requires { Given rows.now n d }
+    ensures value { (c : Contract) → SpellsContract (line_in rows.now.table.now) rows.now.listing.now c n → result ≡ reported (analyze_of c) (length output.old) }
+    ensures output_after { (c : Contract) → SpellsContract (line_in rows.now.table.now) rows.now.listing.now c n → output.new ≡ written (text_of (analyze_of c)) output.old }
 {
-    let mut taken: [u32; 32] = [0; 32];
-    let mut out: [u32; 7] = [0; 7];
-    let held = analyze(listing, table, n, d, &mut taken, &mut out);
-    let answer = verdict_in(&out);
-    match answer {
-        Verdict::Refused(x) => report_refusal(output, x),
-        Verdict::Accepted => report_acceptance(listing, table, n, d, held, &taken, output),
+    match analyze(rows, n, d) {
+        Err(x) => report_refusal(output, x),
+        Ok(paths) => {
+            let analyzed = Analyzed {
+                rows: *rows,
+                n,
+                declared: d,
+                paths: &paths,
+            };
+            report_acceptance(&analyzed, output)
+        }
     }
-}
-
-// The contract in n rows of work, analyzed and reported; work is cleared.
-fn report_rows(listing: &[u8], work: &mut [u32], output: &mut [u8], n: usize) -> Reported
-    requires { ContractAt listing.now work.old n × (work_words ≤ length work.old) }
-    ensures value { (c : Contract) → SpellsContract (line_in work.old) listing.now c n → result ≡ reported (analyze_of c) (length output.old) }
-    ensures output_after { (c : Contract) → SpellsContract (line_in work.old) listing.now c n → output.new ≡ written (text_of (analyze_of c)) output.old }
-    ensures work_after { work.new ≡ cleared work.old }
-{
-    let d = declarations(listing, &work[..], n);
-    let r = report_table(listing, &work[..], n, d, output);
-    rows::clear(work);
-    r
 }
 
 // Report: what Check answers, or 6, with the text's length. A text opens with `A,` exactly where Check accepts.
@@ -59,9 +53,13 @@ pub fn report(listing: &[u8], work: &mut [u32], output: &mut [u8]) -> Reported
     if work.len() < WORK_WORDS {
         return without_text(ErrorKind::WorkTooShort);
     }
-    let read = read_listing(listing, work);
-    match read {
+    let examined = examine(
+        listing,
+        work,
+        &mut |rows, n, d| report_table(rows, n, d, output),
+    );
+    match examined {
         Err(x) => report_refusal(output, x),
-        Ok(n) => report_rows(listing, work, output, n),
+        Ok(r) => r,
     }
 }

@@ -14,12 +14,10 @@ pub mod necessity; // necessity.rt: count_paths
 pub fn goes_on(line: StatementLine) -> bool
     ensures { result ≡ line_goes_on line }
 {
-    match line {
-        StatementLine::IfStatement(_, _) => false,
-        StatementLine::LocktimeStatement(_, _, _) => true,
-        StatementLine::VerifyStatement(_) => true,
-        StatementLine::ExpressionStatement(_) => false,
-    }
+    matches!(
+        line,
+        StatementLine::LocktimeStatement(..) | StatementLine::VerifyStatement(_)
+    )
 }
 
 // Where a statement stands.
@@ -27,9 +25,9 @@ pub fn place_of(line: StatementLine) -> Location
     ensures { result ≡ line_place line }
 {
     match line {
-        StatementLine::IfStatement(loc, _) => loc,
-        StatementLine::LocktimeStatement(loc, _, _) => loc,
-        StatementLine::VerifyStatement(loc) => loc,
-        StatementLine::ExpressionStatement(loc) => loc,
+        StatementLine::IfStatement(loc, _)
+        | StatementLine::LocktimeStatement(loc, _, _)
+        | StatementLine::VerifyStatement(loc)
+        | StatementLine::ExpressionStatement(loc) => loc,
     }
 }

@@ -12,7 +12,7 @@ use listing::StatementLine;
 use nodes::{block_at, skip_expression, skip_statements, statement_at};
 
 // A number of paths, and the row after what was counted.
-#[derive(Clone, Copy)]
+#[derive(Clone, Copy, PartialEq, Eq)]
 pub struct Counted {
     pub count: u32,
     pub next: usize,
@@ -26,12 +26,10 @@ pub fn count_paths(table: &[u32], i: usize) -> Counted
 {
     let n = block_at(table, i);
     let mut at = i + 1;
-    let mut left = n;
-    while 0 < left {
+    for left in (0..n).rev() {
         let line = statement_at(table, at);
         let counted = count_through(table, at);
         at = counted.next;
-        left -= 1;
         if !goes_on(line) {
             let next = skip_statements(table, at, left);
             return Counted {

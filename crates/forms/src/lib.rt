@@ -1,266 +1,187 @@
-// The forms of a line, stored as rows: each function reads the fields that follow a letter, and byte 10, and stores the row i.
-// It answers the position after byte 10; 0, with nothing stored, where the bytes have no form.
+// The forms of a line: each function reads the fields that follow a letter, and byte 10, and gives the row of the line.
 #![tactic(auto)]
 
 ghost use Rattle.std.specs.Prelude.{◌≡◌, ℕ, ◌+◌, ◌^◌, ◌≤◌, ◌<◌, length};
-ghost use Rattle.std.proofs.lemmas.List.Edits.{sets};
 ghost use Rattle.ast.specs.Tree.{unplaced};
-ghost use Rattle.ast.specs.Numbers.{types, locktime_ops};
-ghost use Rattle.text.specs.Text.{◌<∘>◌, yield, word, index, choice, bit, signed, name, literal};
+ghost use Rattle.text.specs.Text.{◌<∘>◌, yield, word, index};
 ghost use Rattle.listing.specs.declared.Line.{Line};
-ghost use Rattle.listing.specs.declared.StatementLine.{StatementLine};
-ghost use Rattle.listing.specs.declared.ExpressionLine.{ExpressionLine};
-ghost use Rattle.listing.specs.declared.FactorLine.{FactorLine};
-ghost use Rattle.listing.specs.Forms.{contract, form_at};
-ghost use Rattle.rows.specs.Rows.{row_with, bit_number, signed_row, part_row, PlaceFits, row_of, words_of, row_words, HasRow};
-ghost use Rattle.forms.specs.Stores.{both, Stores};
+ghost use Rattle.listing.specs.Forms.{contract};
+ghost use Rattle.rows.specs.Rows.{row_with, signed_row, part_row, PlaceFits, row_of};
+ghost use Rattle.forms.specs.Rowed.{row_read, ended_row, item_fields, wait_fields, number_fields, name_fields, literal_fields, multi_fields};
 
-use ast::{Location, Signed};
+use ast::{Location, Signed, unplaced};
 use decimals::read_signed;
 use listing::letters;
-use rows::{ROW_WORDS, Words};
-use text::{Place, PlaceRead, SignedRead, Skipped, WordRead, read_literal, read_name, skip};
+use rows::Words;
+use text::{Cursor, Place};
 use words::{read_index, read_word};
 
-const NEWLINE: u8 = 10;
-
-fn row_with(k: u32, w: Location, a: u32, b: u32, c: u32, d: u32) -> Words
-    ensures { result ≡ row_with k w a b c d }
+// The row of a line with no more fields than its location.
+fn located(kind: u32, w: Location) -> Words
+    ensures { result ≡ row_with kind w 0 0 0 0 }
 {
     Words {
-        kind: k,
+        kind,
         start: w.start,
         end: w.end,
         line: w.line,
         column: w.column,
-        a,
-        b,
-        c,
-        d,
+        a: 0,
+        b: 0,
+        c: 0,
+        d: 0,
     }
 }
 
-// The row of a line with at most one more field.
-fn short_row(k: u32, w: Location, a: u32) -> Words
-    ensures { result ≡ row_with k w a 0 0 0 }
-{
-    row_with(k, w, a, 0, 0, 0)
-}
-
-// The row of a line with no location.
-fn plain_row(k: u32, a: u32, b: u32) -> Words
-    ensures { result ≡ row_with k unplaced a b 0 0 }
-{
-    row_with(
-        k,
-        Location {
-            start: 0,
-            end: 0,
-            line: 0,
-            column: 0,
-        },
-        a,
-        b,
-        0,
-        0,
-    )
-}
-
 // The row of a line that names a part of the listing.
-fn part_row(k: u32, w: Location, x: Place, c: u32) -> Words
+fn part_row(kind: u32, w: Location, x: Place, c: u32) -> Words
     requires { PlaceFits x }
-    ensures { result ≡ part_row k w x c }
+    ensures { result ≡ part_row kind w x c }
 {
-    row_with(k, w, x.at as u32, x.len as u32, c, 0)
-}
-
-fn bit(b: bool) -> u32
-    ensures { result ≡ bit_number b }
-{
-    if b { 1 } else { 0 }
+    Words {
+        a: x.at as u32,
+        b: x.len as u32,
+        c,
+        ..located(kind, w)
+    }
 }
 
 // The row of a line with a signed number: its sign, then its magnitude, the low word first.
-fn signed_row(k: u32, w: Location, a: u32, v: Signed) -> Words
-    ensures { result ≡ signed_row k w a v }
+fn signed_row(kind: u32, w: Location, a: u32, v: Signed) -> Words
+    ensures { result ≡ signed_row kind w a v }
 {
-    let n = v.magnitude;
-    row_with(
-        k,
-        w,
+    Words {
         a,
-        bit(v.negative),
-        (n % 4294967296) as u32,
-        (n / 4294967296) as u32,
-    )
+        b: u32::from(v.negative),
+        c: (v.magnitude % 4294967296) as u32,
+        d: (v.magnitude / 4294967296) as u32,
+        ..located(kind, w)
+    }
 }
 
-fn put_words(work: &mut [u32], at: usize, r: Words)
-    requires { at + row_words ≤ length work.old }
-    ensures { work.new ≡ sets work.old at (words_of r) }
+// Byte 10 after the fields of a line, whose row is `row`.
+fn ended(row: Words, c: Cursor) -> Option<(Words, Cursor)>
+    ensures { result ≡ ended_row row c.entry }
 {
-    work[at] = r.kind;
-    work[at + 1] = r.start;
-    work[at + 2] = r.end;
-    work[at + 3] = r.line;
-    work[at + 4] = r.column;
-    work[at + 5] = r.a;
-    work[at + 6] = r.b;
-    work[at + 7] = r.c;
-    work[at + 8] = r.d;
-}
-
-// Byte 10 after the fields of a line, whose row is `r`.
-fn end_row(listing: &[u8], at: usize, work: &mut [u32], i: usize, r: Words) -> usize
-    requires { HasRow work.old i }
-    ensures { (l : Line) → r ≡ row_of l → Stores (form_at (yield l) listing.now at) i work.old work.new result }
-{
-    let Skipped::To(n) = skip(listing, at, NEWLINE) else {
-        return 0;
-    };
-    put_words(work, i * ROW_WORDS, r);
-    n
+    Some((row, c.skip(b'\n')?))
 }
 
 // T: target, declarations.
-pub fn store_contract(listing: &[u8], at: usize, work: &mut [u32], i: usize) -> usize
-    requires { HasRow work.old i }
-    ensures { Stores (form_at contract listing.now at) i work.old work.new result }
+#[tactic(auto, using(crate::proofs::Rowed::contract_is))]
+pub fn contract_row(c: Cursor) -> Option<(Words, Cursor)>
+    ensures { result ≡ row_read contract c.entry }
 {
-    let WordRead::Got(g, n1) = read_index(listing, at, 3) else {
-        return 0;
-    };
-    let WordRead::Got(count, n) = read_word(listing, n1) else {
-        return 0;
-    };
-    end_row(listing, n, work, i, plain_row(letters::CONTRACT, g, count))
+    let (a, c) = read_index(c, 3)?;
+    let (b, c) = read_word(c)?;
+    ended(
+        Words {
+            a,
+            b,
+            ..located(letters::CONTRACT, unplaced())
+        },
+        c,
+    )
 }
 
 // D, B: items or statements.
-pub fn store_counted(listing: &[u8], at: usize, work: &mut [u32], i: usize, letter: u32) -> usize
-    requires { HasRow work.old i }
-    ensures { (f : ℕ → Line) → ((v : ℕ) → row_with letter unplaced v 0 0 0 ≡ row_of (f v)) → Stores (form_at (f <∘> word) listing.now at) i work.old work.new result }
+pub fn counted_row(c: Cursor, letter: u32) -> Option<(Words, Cursor)>
+    ensures { (f : ℕ → Line) → ((v : ℕ) → row_with letter unplaced v 0 0 0 ≡ row_of (f v)) → result ≡ row_read (f <∘> word) c.entry }
 {
-    let WordRead::Got(count, n) = read_word(listing, at) else {
-        return 0;
-    };
-    end_row(listing, n, work, i, plain_row(letter, count, 0))
+    let (a, c) = read_word(c)?;
+    ended(
+        Words {
+            a,
+            ..located(letter, unplaced())
+        },
+        c,
+    )
 }
 
 // P, after its location: type, name.
-pub fn store_item(listing: &[u8], at: usize, work: &mut [u32], i: usize, w: Location) -> usize
-    requires { (length listing.now < 2 ^ 32) × HasRow work.old i }
-    ensures { Stores (form_at (both (choice types) name (Line.StackParam w)) listing.now at) i work.old work.new result }
+#[tactic(auto, using(crate::proofs::Rowed::item_is, crate::proofs::Rowed::name_fits))]
+pub fn item_row(c: Cursor, w: Location) -> Option<(Words, Cursor)>
+    requires { length c.listing.now < 2 ^ 32 }
+    ensures { result ≡ row_read (item_fields w) c.entry }
 {
-    let WordRead::Got(t, n1) = read_index(listing, at, 4) else {
-        return 0;
-    };
-    let PlaceRead::Got(x, n) = read_name(listing, n1) else {
-        return 0;
-    };
-    end_row(listing, n, work, i, part_row(letters::ITEM, w, x, t))
+    let (ty, c) = read_index(c, 4)?;
+    let (name, c) = c.read_name()?;
+    ended(part_row(letters::ITEM, w, name, ty), c)
 }
 
 // A form with a location and nothing after it.
-pub fn store_plain(
-    listing: &[u8],
-    at: usize,
-    work: &mut [u32],
-    i: usize,
-    letter: u32,
-    w: Location,
-) -> usize
-    requires { HasRow work.old i }
-    ensures { (l : Line) → row_with letter w 0 0 0 0 ≡ row_of l → Stores (form_at (yield l) listing.now at) i work.old work.new result }
+pub fn plain_row(c: Cursor, letter: u32, w: Location) -> Option<(Words, Cursor)>
+    ensures { (l : Line) → row_with letter w 0 0 0 0 ≡ row_of l → result ≡ row_read (yield l) c.entry }
 {
-    end_row(listing, at, work, i, short_row(letter, w, 0))
+    ended(located(letter, w), c)
 }
 
 // A form with a location and one number below `count`, after its location.
-pub fn store_operator(
-    listing: &[u8],
-    at: usize,
-    work: &mut [u32],
-    i: usize,
-    letter: u32,
-    w: Location,
-    count: u32,
-) -> usize
-    requires { HasRow work.old i }
-    ensures { (f : ℕ → Line) → ((v : ℕ) → v < count → row_with letter w v 0 0 0 ≡ row_of (f v)) → Stores (form_at (f <∘> index count) listing.now at) i work.old work.new result }
+pub fn operator_row(c: Cursor, letter: u32, w: Location, count: u32) -> Option<(Words, Cursor)>
+    ensures { (f : ℕ → Line) → ((v : ℕ) → v < count → row_with letter w v 0 0 0 ≡ row_of (f v)) → result ≡ row_read (f <∘> index count) c.entry }
 {
-    let WordRead::Got(v, n) = read_index(listing, at, count) else {
-        return 0;
-    };
-    end_row(listing, n, work, i, short_row(letter, w, v))
+    let (a, c) = read_index(c, count)?;
+    ended(
+        Words {
+            a,
+            ..located(letter, w)
+        },
+        c,
+    )
 }
 
 // L, after its location: op, operand.
-pub fn store_wait(listing: &[u8], at: usize, work: &mut [u32], i: usize, w: Location) -> usize
-    requires { HasRow work.old i }
-    ensures { Stores (form_at (Line.Statement <∘> both (choice locktime_ops) signed (StatementLine.LocktimeStatement w)) listing.now at) i work.old work.new result }
+#[tactic(auto, using(crate::proofs::Rowed::wait_is))]
+pub fn wait_row(c: Cursor, w: Location) -> Option<(Words, Cursor)>
+    ensures { result ≡ row_read (wait_fields w) c.entry }
 {
-    let WordRead::Got(op, n1) = read_index(listing, at, 3) else {
-        return 0;
-    };
-    let SignedRead::Got(v, n) = read_signed(listing, n1) else {
-        return 0;
-    };
-    end_row(listing, n, work, i, signed_row(letters::WAIT, w, op, v))
+    let (op, c) = read_index(c, 3)?;
+    let (v, c) = read_signed(c)?;
+    ended(signed_row(letters::WAIT, w, op, v), c)
 }
 
 // n, after its location: value.
-pub fn store_number(listing: &[u8], at: usize, work: &mut [u32], i: usize, w: Location) -> usize
-    requires { HasRow work.old i }
-    ensures { Stores (form_at (Line.Expression <∘> ExpressionLine.NumberLiteral w <∘> signed) listing.now at) i work.old work.new result }
+#[tactic(auto, using(crate::proofs::Rowed::number_is))]
+pub fn number_row(c: Cursor, w: Location) -> Option<(Words, Cursor)>
+    ensures { result ≡ row_read (number_fields w) c.entry }
 {
-    let SignedRead::Got(v, n) = read_signed(listing, at) else {
-        return 0;
-    };
-    end_row(listing, n, work, i, signed_row(letters::NUMBER, w, 0, v))
+    let (v, c) = read_signed(c)?;
+    ended(signed_row(letters::NUMBER, w, 0, v), c)
 }
 
 // v, after its location: name.
-pub fn store_name(listing: &[u8], at: usize, work: &mut [u32], i: usize, w: Location) -> usize
-    requires { (length listing.now < 2 ^ 32) × HasRow work.old i }
-    ensures { Stores (form_at (Line.Expression <∘> ExpressionLine.Variable w <∘> name) listing.now at) i work.old work.new result }
+#[tactic(auto, using(crate::proofs::Rowed::name_is, crate::proofs::Rowed::name_fits))]
+pub fn name_row(c: Cursor, w: Location) -> Option<(Words, Cursor)>
+    requires { length c.listing.now < 2 ^ 32 }
+    ensures { result ≡ row_read (name_fields w) c.entry }
 {
-    let PlaceRead::Got(x, n) = read_name(listing, at) else {
-        return 0;
-    };
-    end_row(listing, n, work, i, part_row(letters::VARIABLE, w, x, 0))
+    let (name, c) = c.read_name()?;
+    ended(part_row(letters::VARIABLE, w, name, 0), c)
 }
 
 // s, after its location: bytes, mark.
-pub fn store_literal(listing: &[u8], at: usize, work: &mut [u32], i: usize, w: Location) -> usize
-    requires { (length listing.now < 2 ^ 32) × HasRow work.old i }
-    ensures { Stores (form_at (Line.Expression <∘> both literal bit (ExpressionLine.StringLiteral w)) listing.now at) i work.old work.new result }
+#[tactic(auto, using(crate::proofs::Rowed::literal_is, crate::proofs::Rowed::literal_fits))]
+pub fn literal_row(c: Cursor, w: Location) -> Option<(Words, Cursor)>
+    requires { length c.listing.now < 2 ^ 32 }
+    ensures { result ≡ row_read (literal_fields w) c.entry }
 {
-    let PlaceRead::Got(x, n1) = read_literal(listing, at) else {
-        return 0;
-    };
-    let WordRead::Got(mark, n) = read_index(listing, n1, 2) else {
-        return 0;
-    };
-    end_row(listing, n, work, i, part_row(letters::LITERAL, w, x, mark))
+    let (bytes, c) = c.read_literal()?;
+    let (mark, c) = read_index(c, 2)?;
+    ended(part_row(letters::LITERAL, w, bytes, mark), c)
 }
 
 // M, after its location: m, factors.
-pub fn store_multi(listing: &[u8], at: usize, work: &mut [u32], i: usize, w: Location) -> usize
-    requires { HasRow work.old i }
-    ensures { Stores (form_at (Line.Factor <∘> both word word (FactorLine.MultiSigFactor w)) listing.now at) i work.old work.new result }
+#[tactic(auto, using(crate::proofs::Rowed::multi_is))]
+pub fn multi_row(c: Cursor, w: Location) -> Option<(Words, Cursor)>
+    ensures { result ≡ row_read (multi_fields w) c.entry }
 {
-    let WordRead::Got(m, n1) = read_word(listing, at) else {
-        return 0;
-    };
-    let WordRead::Got(count, n) = read_word(listing, n1) else {
-        return 0;
-    };
-    end_row(
-        listing,
-        n,
-        work,
-        i,
-        row_with(letters::MULTI, w, m, count, 0, 0),
+    let (a, c) = read_word(c)?;
+    let (b, c) = read_word(c)?;
+    ended(
+        Words {
+            a,
+            b,
+            ..located(letters::MULTI, w)
+        },
+        c,
     )
 }

@@ -3,7 +3,7 @@
 
 ghost use Rattle.std.specs.Prelude.{◌≡◌, length};
 ghost use Rattle.reading.specs.Held.{listing_read, work_read};
-ghost use Rattle.lent_path.specs.Lent.{answered_read, take_at, transfer_at, Kept};
+ghost use Rattle.lent_path.specs.Lent.{answered, take_at, transfer_at, Kept};
 
 use lent_path::Answered;
 use paths::Path;
@@ -11,7 +11,7 @@ use paths::Path;
 // The rows of a listing, which the two functions below take as their table: 1 to 5 with no row left, as Check has them.
 #[unsafe(no_mangle)]
 pub extern "C" fn bithoven_rows(listing: &[u8], work: &mut [u32]) -> Answered
-    ensures value { result ≡ answered_read (listing_read listing.now (length work.old)) }
+    ensures value { result ≡ answered (listing_read listing.now (length work.old)) }
     ensures work_after { work.new ≡ work_read listing.now work.old }
 {
     lent_path::bithoven_rows(listing, work)

@@ -2,13 +2,18 @@
 // prints after each step the answer, what is taken by which lines, and whether both agree.
 #![tactic(auto)]
 
-ghost use Rattle.lent_path.specs.Lent.{Kept, take_at, transfer_at};
+ghost use Rattle.std.specs.Prelude.{◌≡◌};
+ghost use Rattle.std.specs.Fn.{FnOnceReturnsAtMut};
+ghost use Rattle.std.specs.Result.{result_unwrap_or};
+ghost use Rattle.lent_path.specs.Lent.{answered};
 
-use lent_path::{Answered, Left, bithoven_take, bithoven_transfer, take_at, transfer_at};
+use ast::CompileError;
+use lent_path::{Answered, bithoven_take, bithoven_transfer, take_at, transfer_at};
 use paths::{NamePlace, Path};
 use reading::read_listing;
+use rows::Rows;
+use std::io;
 use std::io::Read;
-use std::{fmt, io};
 
 // The most that is read of a listing.
 const MOST_READ: u64 = 65536;
@@ -20,64 +25,40 @@ struct Both {
     held: Path,
 }
 
-// `take` on a path of its own, which it lends.
-fn take_through(listing: &[u8], table: &[u32], i: usize, path: Path) -> Left
-    ensures { Kept listing.now table.now path (take_at listing.now table.now i path) result.answered result.path }
-{
-    let mut lent = path;
-    let answered = bithoven_take(&mut lent, listing, table, i);
-    Left {
-        path: lent,
-        answered,
-    }
-}
-
-// `transfer` into a path of its own, which it lends.
-fn transfer_through(listing: &[u8], table: &[u32], i: usize, from: Path, path: Path) -> Left
-    ensures { Kept listing.now table.now path (transfer_at listing.now table.now i from path) result.answered result.path }
-{
-    let mut lent = path;
-    let answered = bithoven_transfer(&mut lent, listing, table, i, from);
-    Left {
-        path: lent,
-        answered,
-    }
-}
-
-// An answer, printed as its number and its place.
+// What a step leaves of a path, and its answer.
 #[derive(Clone, Copy, PartialEq, Eq)]
-struct Answer([u32; 5]);
+struct Left {
+    path: Path,
+    answered: Answered,
+}
 
-impl From<Answered> for Answer {
-    fn from(a: Answered) -> Answer {
-        Answer([a.number, a.start, a.end, a.line, a.column])
+impl Left {
+    // What a call leaves of a path of its own, which it is lent.
+    fn lent<F: FnOnce(&mut Path) -> Answered>(path: Path, call: F) -> Left
+        requires { F.IsAlwaysCallable call }
+        ensures { FnOnceReturnsAtMut F.FnOnce call path result.answered result.path }
+    {
+        let mut path = path;
+        let answered = call(&mut path);
+        Left { path, answered }
     }
-}
 
-impl fmt::Display for Answer {
-    fn fmt<W: fmt::Write>(&self, f: &mut fmt::Formatter<W>) -> fmt::Result {
-        let [number, start, end, line, column] = self.0;
-        write!(f, "{number},{start},{end},{line},{column}")
+    // What a walk by value leaves: the path that it came to, or after a refusal the one before.
+    fn held(path: Path, walked: Result<Path, CompileError>) -> Left
+        ensures { result ≡ record { path = result_unwrap_or walked path; answered = answered walked } }
+    {
+        Left {
+            path: walked.unwrap_or(path),
+            answered: Answered::from(walked),
+        }
     }
-}
-
-fn is_same_place(a: &NamePlace, b: &NamePlace) -> bool {
-    (a.row, a.line) == (b.row, b.line)
-}
-
-fn is_same_path(a: &Path, b: &Path) -> bool {
-    (a.count, a.taken) == (b.count, b.taken)
-        && a.places
-            .iter()
-            .zip(&b.places)
-            .all(|(p, q)| is_same_place(p, q))
 }
 
 // Whether both ways agree.
 fn agreement(lent: &Left, held: &Left) -> &'static str {
-    if Answer::from(lent.answered) != Answer::from(held.answered) {
+    if lent.answered != held.answered {
         "OTHER ANSWER"
-    } else if !is_same_path(&lent.path, &held.path) {
+    } else if lent.path != held.path {
         "OTHER PATH"
     } else {
         "same"
@@ -100,47 +81,50 @@ fn two_items(top: u16, below: u16, taken: u32) -> Both {
     }
 }
 
-// A listing, its table, and where the steps are printed.
+// A listing with its rows, and where the steps are printed.
 #[derive(Clone, Copy)]
 struct Driver<'a, P> {
     rt: &'a P,
-    listing: &'a [u8],
-    table: &'a [u32],
+    rows: Rows<'a>,
 }
 
 impl<P: Print> Driver<'_, P> {
-    // A step's answer, the path's taken set, the lines that took its first two items, and whether both ways agree.
-    fn print_step(&self, name: &str, i: usize, lent: Left, held: Left) -> io::Result<()> {
-        let answer = Answer::from(lent.answered);
-        let path = lent.path;
-        let [first, second, ..] = path.places;
+    // A step's answer, the path's taken set, the lines that took its first two items, and whether both ways agree; the paths after it.
+    fn step(&self, name: &str, i: usize, lent: Left, held: Left) -> io::Result<Both> {
+        let a = lent.answered;
+        let [first, second, ..] = lent.path.places;
         println!(self.rt;
-            "{name} {i}: {answer}; taken {} by {},{}; {}",
-            path.taken,
+            "{name} {i}: {},{},{},{},{}; taken {} by {},{}; {}",
+            a.number,
+            a.start,
+            a.end,
+            a.line,
+            a.column,
+            lent.path.taken,
             first.line,
             second.line,
             agreement(&lent, &held)
-        )
+        )?;
+        Ok(Both {
+            lent: lent.path,
+            held: held.path,
+        })
     }
 
     fn take(&self, i: usize, paths: Both) -> io::Result<Both> {
-        let lent = take_through(self.listing, self.table, i, paths.lent);
-        let held = take_at(self.listing, self.table, i, paths.held);
-        self.print_step("take", i, lent, held)?;
-        Ok(Both {
-            lent: lent.path,
-            held: held.path,
-        })
+        let lent = Left::lent(paths.lent, |path| {
+            bithoven_take(path, self.rows.listing, self.rows.table, i)
+        });
+        let walked = take_at(&self.rows, i, paths.held);
+        self.step("take", i, lent, Left::held(paths.held, walked))
     }
 
     fn transfer(&self, i: usize, from: Both, paths: Both) -> io::Result<Both> {
-        let lent = transfer_through(self.listing, self.table, i, from.lent, paths.lent);
-        let held = transfer_at(self.listing, self.table, i, from.held, paths.held);
-        self.print_step("transfer", i, lent, held)?;
-        Ok(Both {
-            lent: lent.path,
-            held: held.path,
-        })
+        let lent = Left::lent(paths.lent, |path| {
+            bithoven_transfer(path, self.rows.listing, self.rows.table, i, from.lent)
+        });
+        let walked = transfer_at(&self.rows, i, from.held, paths.held);
+        self.step("transfer", i, lent, Left::held(paths.held, walked))
     }
 
     // Rows 2 and 3 are the items of the first path, 5 and 6 of the second; row 8 is the if, 9 its condition, 14 and 19 are variables.
@@ -182,13 +166,12 @@ fn main(rt: HostRuntime) -> io::Result<()> {
     let mut listing = Vec::new(rt.alloc());
     rt.stdin().take(MOST_READ).read_to_end(&mut listing)?;
     let mut work = [0u32; 16384];
-    match read_listing(&listing, &mut work) {
-        Ok(_) => Driver {
-            rt: &rt,
-            listing: &listing,
-            table: &work,
-        }
-        .drive(),
-        Err(_) => println!(rt; "the listing is refused"),
+    if read_listing(&listing, &mut work).is_err() {
+        return println!(rt; "the listing is refused");
     }
+    let rows = Rows {
+        listing: &listing,
+        table: &work,
+    };
+    Driver { rt: &rt, rows }.drive()
 }

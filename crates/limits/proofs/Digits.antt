@@ -2,91 +2,60 @@
 use Prim.Native.Nat.{ℕ, zero, suc, ◌+◌, ◌*◌, ◌-◌, ◌/◌, ◌%◌, ◌≤◌, ◌<◌}
 use native.Mathlib.Omega.{arith}
 use mathlib.Core.Bool.{Bool, true, false, ◌&&◌, ◌||◌}
-use mathlib.Core.List.{List, [], ◌∷◌}
+use mathlib.Core.List.{List, [], ◌∷◌, ◌++◌}
 use mathlib.Core.Logic.{◌⊎◌, inl, inr, ◌↔◌}
-use mathlib.Core.Path.{◌≡◌, refl, sym, ◌∙◌}
+use mathlib.Core.Path.{◌≡◌, refl, sym, ap, ◌∙◌, subst}
 use lib.Dec.{leb, eqb}
-use lib.ListN.{length, take, drop, get_or, length-take, length-drop}
-use lib.Seq.{drop-cons}
-use borrow.Author.Tests.{leb-true, le-leb, lt-leb, eqb-true, eqb-false, eq-eqb, ne_eqb}
-use Rattle.text.specs.declared.Place.{Place}
-use Rattle.text.specs.Text.{within as text_within, is_digit as is_decimal, is_hex_digit, part, hex_value, unhex, bytes_of}
+use lib.ListN.{length, take, drop, get_or, length-drop}
+use borrow.Author.Tests.{leb-true, le-leb, lt-leb, eqb-true, eqb-false, eq-eqb}
+use Rattle.std.proofs.lemmas.Bool.{and_parts}
+use Rattle.std.proofs.lemmas.List.{take_all}
+use Rattle.std.proofs.lemmas.List.Folds.{list_all-append, list_all_at}
+use Rattle.text.specs.Text.{within as text_within, is_digit as is_decimal, is_hex_digit, hex_value, unhex}
 use Rattle.text.proofs.Every.{Every}
-use Rattle.rules.specs.Keys.{within, is_digit, all_digits, is_hex, pushed}
-use Rattle.rules.proofs.Basics.{and-true}
+use Rattle.limits.specs.Pairs.{AllPairs}
+use Rattle.std.specs.List.{list_all}
+use Rattle.rules.specs.Keys.{within, is_digit, all_digits}
 
 -- two digits a byte
-pub unhex-length : (l : List ℕ) → length (unhex l) ≡ length l / 2
+pub unhex_length : (l : List ℕ) → length (unhex l) ≡ length l / 2
 unfolding unhex
-unhex-length [] = refl
-unhex-length (a ∷ []) = refl
-unhex-length (a ∷ b ∷ l) = omega (arith, unhex-length l)
+unhex_length [] = refl
+unhex_length (a ∷ []) = refl
+unhex_length (a ∷ b ∷ l) = omega (arith, unhex_length l)
 
--- the first byte, and the digits after it
-pub unhex-more : (s : List ℕ) (i n : ℕ) → i + n ≤ length s → 1 < n → unhex (take n (drop i s)) ≡ (hex_value (get_or s i 0) * 16 + hex_value (get_or s (i + 1) 0)) ∷ unhex (take (n - 2) (drop (i + 2) s))
+-- the byte that the digits 2 j and 2 j + 1 spell
+abbrev pub Byte : List ℕ → ℕ → ℕ
+Byte s j = hex_value (get_or s (2 * j) 0) * 16 + hex_value (get_or s (2 * j + 1) 0)
+
+unhex_byte : (s : List ℕ) (j : ℕ) → 2 * j + 1 < length s → get_or (unhex s) j 0 ≡ Byte s j
 unfolding unhex
-unhex-more s i zero h q = absurd (omega arith)
-unhex-more s i (suc zero) h q = absurd (omega arith)
-unhex-more s i (suc (suc n)) h q =
-    let e : i + 2 ≡ suc (suc i) = omega arith in
-    let f : i + 1 ≡ suc i = omega arith in
-    let g : suc (suc n) - 2 ≡ n = omega arith in
-    rw (e, f, g, drop-cons s i 0 (omega arith), drop-cons s (suc i) 0 (omega arith))
+unhex_byte [] j h = absurd (omega arith)
+unhex_byte (a ∷ []) j h = absurd (omega arith)
+unhex_byte (a ∷ b ∷ s) zero h = refl
+unhex_byte (a ∷ b ∷ s) (suc j) h =
+    let f : 2 * suc j + 1 ≡ suc (suc (2 * j + 1)) = omega arith in
+    let e : 2 * suc j ≡ suc (suc (2 * j)) = omega arith in
+    rw (f, e) (unhex_byte s j (omega arith))
 
--- fewer than two digits spell nothing
-pub unhex-none : (l : List ℕ) → length l < 2 → unhex l ≡ []
+-- m pairs and the rest
+unhex-split : (m : ℕ) (s : List ℕ) → 2 * m ≤ length s → unhex s ≡ unhex (take (2 * m) s) ++ unhex (drop (2 * m) s)
 unfolding unhex
-unhex-none [] h = refl
-unhex-none (a ∷ []) h = refl
-unhex-none (a ∷ b ∷ l) h = absurd (omega arith)
-
--- whether the bytes are all hex digits: the first byte, and the rest
-module _ (s : List ℕ) (i n : ℕ) (h : i + n ≤ length s) (q : 1 < n) {b : Bool} (e : b ≡ is_digit (hex_value (get_or s i 0) * 16 + hex_value (get_or s (i + 1) 0))) where
-  pub digits_more : b ≡ true → all_digits (unhex (take (n - 2) (drop (i + 2) s))) ≡ all_digits (unhex (take n (drop i s)))
-  unfolding all_digits
-  digits_more d = rw (unhex-more s i n h q, ← e, d)
-
-  pub digits-none : b ≡ false → false ≡ all_digits (unhex (take n (drop i s)))
-  unfolding all_digits
-  digits-none d = rw (unhex-more s i n h q, ← e, d)
-
--- and back from the whole to the first byte and the rest
-digits-apart : (s : List ℕ) (i n : ℕ) → i + n ≤ length s → 1 < n → all_digits (unhex (take n (drop i s))) ≡ true
-    → (is_digit (hex_value (get_or s i 0) * 16 + hex_value (get_or s (i + 1) 0)) ≡ true) × (all_digits (unhex (take (n - 2) (drop (i + 2) s))) ≡ true)
-unfolding all_digits
-digits-apart s i n h q e = and-true (is_digit (hex_value (get_or s i 0) * 16 + hex_value (get_or s (i + 1) 0))) (all_digits (unhex (take (n - 2) (drop (i + 2) s)))) (rw (unhex-more s i n h q) at e)
-
-pub digits-end : (s : List ℕ) (i n : ℕ) → i + n ≤ length s → n ≤ 1 → true ≡ all_digits (unhex (take n (drop i s)))
-unfolding all_digits
-digits-end s i n h q = rw (unhex-none (take n (drop i s)) (simp (length-take, length-drop) (omega arith)))
+unhex-split zero s h = refl
+unhex-split (suc m) [] h = absurd (omega arith)
+unhex-split (suc m) (a ∷ []) h = absurd (omega arith)
+unhex-split (suc m) (a ∷ b ∷ s) h =
+    let e : 2 * suc m ≡ suc (suc (2 * m)) = omega arith in
+    rw e (ap (λ r. (hex_value a * 16 + hex_value b) ∷ r) (unhex-split m s (omega arith)))
 
 -- what a digit stands for, by its case
-pub low_digit : (b : ℕ) → b ≤ 57 → hex_value b ≡ b - 48
+low_digit : (b : ℕ) → b ≤ 57 → hex_value b ≡ b - 48
 unfolding hex_value
 low_digit b h = rw (le-leb b 57 h, hex_value)
 
-pub high_digit : (b : ℕ) → 57 < b → hex_value b ≡ b - 87
+high_digit : (b : ℕ) → 57 < b → hex_value b ≡ b - 87
 unfolding hex_value
 high_digit b h = rw (lt-leb b 57 h, hex_value)
-
--- a literal's length, from how many digits it has
-module _ (s : List ℕ) (x : Place) (h : x.at + x.len ≤ length s) where
-  pub bytes_count : length (bytes_of s x) ≡ x.len / 2
-  unfolding bytes_of part
-  bytes_count = unhex-length (take x.len (drop x.at s)) ∙ simp (length-take, length-drop) (omega arith)
-
-  pub odd-length : x.len / 2 % 2 ≡ 1 → x.len / 2 ≡ pushed (bytes_of s x)
-  unfolding pushed is_hex
-  odd-length q = rw (bytes_count, ne_eqb (x.len / 2 % 2) 0 (omega arith))
-
-  module _ (q : x.len / 2 % 2 ≡ 1 → ⊥) {t : Bool} (e : t ≡ all_digits (unhex (take x.len (drop x.at s)))) where
-    pub hex-length : t ≡ true → x.len / 2 / 2 ≡ pushed (bytes_of s x)
-    unfolding pushed is_hex bytes_of part
-    hex-length d = rw (bytes_count, eq-eqb (x.len / 2 % 2) 0 (omega arith), ← e, d)
-
-    pub other_length : t ≡ false → x.len / 2 ≡ pushed (bytes_of s x)
-    unfolding pushed is_hex bytes_of part
-    other_length d = rw (bytes_count, eq-eqb (x.len / 2 % 2) 0 (omega arith), ← e, d)
 
 -- tests taken apart
 or-true : (x y : Bool) → (x || y) ≡ true → (x ≡ true) ⊎ (y ≡ true)
@@ -102,7 +71,7 @@ abbrev From : ℕ → ℕ → ℕ → Type 0
 From low high b = (low ≤ b) × (b ≤ high)
 
 from-true : (low high b : ℕ) → (leb low b && leb b high) ≡ true → From low high b
-from-true low high b h = let t = and-true (leb low b) (leb b high) h in (leb-true low b t.0, leb-true b high t.1)
+from-true low high b h = let t = and_parts (leb low b) (leb b high) h in (leb-true low b t.0, leb-true b high t.1)
 
 -- a lower-case hex digit by what it stands for, and a digit by its case
 hex-cases : (b : ℕ) → is_hex_digit b ≡ true → (From 48 57 b × (hex_value b ≡ b - 48)) ⊎ (From 97 102 b × (hex_value b ≡ b - 87))
@@ -161,20 +130,20 @@ module _ (a b : ℕ) where
 
       go : ((eqb a 51 && leb 48 b && leb b 57) ≡ true) ⊎ (((eqb a 52 || eqb a 54) && leb 49 b && leb b 54) ≡ true) → Spelled a b ≡ true
       go (inl t) =
-          let p = and-true (eqb a 51 && leb 48 b) (leb b 57) t in
-          let q = and-true (eqb a 51) (leb 48 b) p.0 in
+          let p = and_parts (eqb a 51 && leb 48 b) (leb b 57) t in
+          let q = and_parts (eqb a 51) (leb 48 b) p.0 in
           let e = eqb-true a 51 q.0 in
           let g : From 48 57 b = (leb-true 48 b q.1, leb-true b 57 p.1) in
           pair_is (omega arith) g (λ x y. decimal_digit _ (omega arith))
       go (inr t) =
-          let p = and-true ((eqb a 52 || eqb a 54) && leb 49 b) (leb b 54) t in
-          let q = and-true (eqb a 52 || eqb a 54) (leb 49 b) p.0 in
+          let p = and_parts ((eqb a 52 || eqb a 54) && leb 49 b) (leb b 54) t in
+          let q = and_parts (eqb a 52 || eqb a 54) (leb 49 b) p.0 in
           letter (leb-true 49 b q.1, leb-true b 54 p.1) (or-true _ _ q.0)
 
   spelled-apart : Spelled a b ≡ true → (is_hex_digit a ≡ true) × (is_hex_digit b ≡ true) × (is_digit (hex_value a * 16 + hex_value b) ≡ true)
   spelled-apart h =
-      let p = and-true (is_hex_digit a && is_hex_digit b) (is_digit (hex_value a * 16 + hex_value b)) h in
-      let q = and-true (is_hex_digit a) (is_hex_digit b) p.0 in
+      let p = and_parts (is_hex_digit a && is_hex_digit b) (is_digit (hex_value a * 16 + hex_value b)) h in
+      let q = and_parts (is_hex_digit a) (is_hex_digit b) p.0 in
       (q.0, q.1, p.1)
 
   pair-from : Spelled a b ≡ true → Tested a b ≡ true
@@ -197,44 +166,58 @@ module _ (a b : ℕ) where
   pub pair-tested : Tested a b ≡ Spelled a b
   pair-tested = same_tests (Tested a b) (Spelled a b) pair-to pair-from
 
--- many bytes at once: from the bytes to the whole, and from the whole to a byte
-module _ (s : List ℕ) (i n : ℕ) (h : i + n ≤ length s) where
-  abbrev Byte : ℕ → ℕ
-  Byte j = hex_value (get_or s (i + 2 * j) 0) * 16 + hex_value (get_or s (i + 2 * j + 1) 0)
+-- a test of all elements, element by element
+module _ (p : ℕ → Bool) where
+  all_true : (xs : List ℕ) → ((j : ℕ) → j < length xs → p (get_or xs j 0) ≡ true) → list_all p xs ≡ true
+  all_true [] f = refl
+  all_true (x ∷ xs) f = rw (f 0 (omega arith)) (all_true xs (λ j l. f (suc j) (omega arith)))
 
-  pub digits-many : (m : ℕ) → 2 * m ≤ n → Every (λ j. is_digit (Byte j)) m → all_digits (unhex (take (n - 2 * m) (drop (i + 2 * m) s))) ≡ all_digits (unhex (take n (drop i s)))
-  digits-many zero q e =
-      let x : n - 2 * 0 ≡ n = omega arith in
-      let y : i + 2 * 0 ≡ i = omega arith in
-      rw (x, y)
-  digits-many (suc m) q e =
-      let x : n - 2 * suc m ≡ n - 2 * m - 2 = omega arith in
-      let y : i + 2 * suc m ≡ i + 2 * m + 2 = omega arith in
-      rw (x, y) (digits_more s (i + 2 * m) (n - 2 * m) (omega arith) (omega arith) refl (e m (omega arith)) ∙ digits-many m (omega arith) (λ j l. e j (omega arith)))
+  each_true : (xs : List ℕ) → list_all p xs ≡ true → (j : ℕ) → j < length xs → p (get_or xs j 0) ≡ true
+  each_true [] e j l = absurd (omega arith)
+  each_true (x ∷ xs) e zero l = (and_parts (p x) (list_all p xs) e).0
+  each_true (x ∷ xs) e (suc j) l = each_true xs (and_parts (p x) (list_all p xs) e).1 j (omega arith)
 
-pub digit_at : (s : List ℕ) (i n j : ℕ) → i + n ≤ length s → 2 * j + 1 < n → all_digits (unhex (take n (drop i s))) ≡ true → is_digit (hex_value (get_or s (i + 2 * j) 0) * 16 + hex_value (get_or s (i + 2 * j + 1) 0)) ≡ true
-digit_at s i n zero h q e = let y : i + 2 * 0 ≡ i = omega arith in rw y (digits-apart s i n h (omega arith) e).0
-digit_at s i n (suc j) h q e = let y : i + 2 * suc j ≡ i + 2 + 2 * j = omega arith in rw y (digit_at s (i + 2) (n - 2) j (omega arith) (omega arith) (digits-apart s i n h (omega arith) e).1)
+  -- a test on pairs that gives this test of the byte that they spell
+  pub all-pairs : {P : ℕ → ℕ → Bool → Type 0} {s : List ℕ} {b : Bool} → AllPairs P s b → ((x y : ℕ) (r : Bool) → P x y r → r ≡ p (hex_value x * 16 + hex_value y)) → b ≡ list_all p (unhex s)
+  all-pairs {P} {s} {b} f g = go b refl
+    where
+      go : (r : Bool) → b ≡ r → r ≡ list_all p (unhex s)
+      go true e = sym (all_true (unhex s) (λ j l. ap p (unhex_byte s j (omega (arith, unhex_length s))) ∙ sym (g _ _ true (f.each e j (omega (arith, unhex_length s))))))
+      go false e = let (j, l, q) = f.one e in sym (list_all_at p (unhex s) j 0 (omega (arith, unhex_length s)) (ap p (unhex_byte s j l) ∙ sym (g _ _ false q)))
+
+-- a recursion that says the same
+pub digits-all : (l : List ℕ) → list_all is_digit l ≡ all_digits l
+unfolding all_digits
+digits-all [] = refl
+digits-all (b ∷ l) = ap (λ r. is_digit b && r) (digits-all l)
+
+-- the digits after 32 that pass
+pub digits-run : (s : List ℕ) → 32 ≤ length s → all_digits (unhex (take 32 s)) ≡ true → all_digits (unhex (take (length s - 32) (drop 32 s))) ≡ all_digits (unhex s)
+digits-run s h e =
+    let f : list_all is_digit (unhex (take 32 s)) ≡ true = digits-all _ ∙ e in
+    let g : list_all is_digit (unhex (take 32 s) ++ unhex (drop 32 s)) ≡ (list_all is_digit (unhex (take 32 s)) && list_all is_digit (unhex (drop 32 s))) = list_all-append is_digit _ _ in
+    rw (take_all (length s - 32) (drop 32 s) (omega (arith, length-drop 32 s))) (sym (digits-all _) ∙ sym (rw f at g) ∙ ap (list_all is_digit) (sym (unhex-split 16 s h)) ∙ digits-all _)
 
 -- pairs that spell digits, one by one and all together
-abbrev pub Pair : List ℕ → ℕ → ℕ → Bool
-Pair s i j = Spelled (get_or s (i + 2 * j) 0) (get_or s (i + 2 * j + 1) 0)
+abbrev pub Pair : List ℕ → ℕ → Bool
+Pair s j = Spelled (get_or s (2 * j) 0) (get_or s (2 * j + 1) 0)
 
-abbrev pub Pairs : List ℕ → ℕ → ℕ → Type 0
-Pairs s i m = Every (Pair s i) m
-
-module _ (s : List ℕ) (i m : ℕ) (h : i + 2 * m ≤ length s) where
-  hex-each : Pairs s i m → Every (λ j. is_hex_digit (get_or s (i + j) 0)) (2 * m)
+module _ (s : List ℕ) (m : ℕ) (h : length s ≡ 2 * m) where
+  hex-each : Every (Pair s) m → (j : ℕ) → j < length s → is_hex_digit (get_or s j 0) ≡ true
   hex-each e j l = let r = spelled-apart _ _ (e (j / 2) (omega arith)) in go (eqb (j % 2) 0) refl r.0 r.1
     where
-      go : (b : Bool) → eqb (j % 2) 0 ≡ b → is_hex_digit (get_or s (i + 2 * (j / 2)) 0) ≡ true → is_hex_digit (get_or s (i + 2 * (j / 2) + 1) 0) ≡ true → is_hex_digit (get_or s (i + j) 0) ≡ true
-      go true t p q = let z = eqb-true (j % 2) 0 t in let y : i + j ≡ i + 2 * (j / 2) = omega arith in rw y p
-      go false t p q = let z = eqb-false (j % 2) 0 t in let y : i + j ≡ i + 2 * (j / 2) + 1 = omega arith in rw y q
+      go : (b : Bool) → eqb (j % 2) 0 ≡ b → is_hex_digit (get_or s (2 * (j / 2)) 0) ≡ true → is_hex_digit (get_or s (2 * (j / 2) + 1) 0) ≡ true → is_hex_digit (get_or s j 0) ≡ true
+      go true t p q = let z = eqb-true (j % 2) 0 t in let y : 2 * (j / 2) ≡ j = omega arith in subst (λ i. is_hex_digit (get_or s i 0) ≡ true) y p
+      go false t p q = let z = eqb-false (j % 2) 0 t in let y : 2 * (j / 2) + 1 ≡ j = omega arith in subst (λ i. is_hex_digit (get_or s i 0) ≡ true) y q
 
-  pub pairs-spelled : Pairs s i m ↔ (Every (λ j. is_hex_digit (get_or s (i + j) 0)) (2 * m) × (all_digits (unhex (take (2 * m) (drop i s))) ≡ true))
-  pairs-spelled = (
-    λ e. (hex-each e, sym (digits-end s (i + 2 * m) (2 * m - 2 * m) (omega arith) (omega arith) ∙ digits-many s i (2 * m) h m (omega arith) (λ j l. (spelled-apart (get_or s (i + 2 * j) 0) (get_or s (i + 2 * j + 1) 0) (e j l)).2))),
-    λ e j l.
-        let y : i + 2 * j + 1 ≡ i + (2 * j + 1) = omega arith in
-        rw (e.0 (2 * j) (omega arith), y, e.0 (2 * j + 1) (omega arith), ← y) (digit_at s i (2 * m) j h (omega arith) e.1),
-  )
+  pub pairs-spelled : {ok : Bool} → ((ok ≡ true) ↔ Every (Pair s) m) → ok ≡ (list_all is_hex_digit s && all_digits (unhex s))
+  pairs-spelled {ok} f = same_tests ok (list_all is_hex_digit s && all_digits (unhex s)) (λ t. to (f.0 t)) (λ t. f.1 (from (and_parts _ _ t).0 (and_parts _ _ t).1))
+    where
+      to : Every (Pair s) m → (list_all is_hex_digit s && all_digits (unhex s)) ≡ true
+      to e =
+          let x : list_all is_hex_digit s ≡ true = all_true is_hex_digit s (hex-each e) in
+          let y : all_digits (unhex s) ≡ true = sym (digits-all _) ∙ all_true is_digit (unhex s) (λ j l. ap is_digit (unhex_byte s j (omega (arith, unhex_length s))) ∙ (spelled-apart _ _ (e j (omega (arith, unhex_length s)))).2) in
+          rw (x, y)
+
+      from : list_all is_hex_digit s ≡ true → all_digits (unhex s) ≡ true → Every (Pair s) m
+      from x y j l = rw (each_true is_hex_digit s x (2 * j) (omega arith), each_true is_hex_digit s x (2 * j + 1) (omega arith)) (ap is_digit (sym (unhex_byte s j (omega arith))) ∙ each_true is_digit (unhex s) (digits-all _ ∙ y) j (omega (arith, unhex_length s)))

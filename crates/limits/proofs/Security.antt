@@ -2,26 +2,21 @@
 use Prim.Native.Nat.{ℕ, suc, ◌+◌, ◌-◌, ◌≤◌, ◌<◌}
 use native.Mathlib.Numerals.{add-one}
 use native.Mathlib.Omega.{arith}
-use denote.Enum.Declared.{tag_of}
-use types.Run.{OneOf, miss}
 use mathlib.Core.List.{List, [], ◌∷◌, ◌++◌}
 use mathlib.Core.Path.{◌≡◌, refl, ap, ◌∙◌}
+use Rattle.std.specs.Prelude.{Ok, Err}
 use Rattle.ast.specs.declared.CompileError.{CompileError}
-use Rattle.ast.specs.declared.Checked.{Checked}
-use Rattle.ast.specs.declared.Checked.TheVariants.{Ok, Err}
 use Rattle.ast.specs.declared.Location.{Location}
 use Rattle.ast.specs.Tree.{Expression, Factor}
 use Rattle.listing.specs.declared.ExpressionLine.{ExpressionLine}
 use Rattle.listing.specs.declared.Line.{Line}
-use Rattle.listing.specs.contracts.ExpressionLine.{the_type}
 use Rattle.rows.specs.Rows.{line_in}
 use Rattle.reader.specs.Ceilings.{max_lines}
 use Rattle.reader.specs.Parts.{count_of, expression_kind, expression_part}
 use Rattle.reader.specs.Spells.{SpellsExpression, SpellsFactor}
 use Rattle.reader.proofs.Inversion.{ExpressionFrom}
-use Rattle.rules.specs.Result.{both}
+use Rattle.rules.specs.Result.{Checked, both}
 use Rattle.rules.specs.Limits.{security}
-use Rattle.nodes.specs.declared.Answer.TheVariants.{Pass, Fault}
 use Rattle.nodes.specs.Stands.{Stands, walked, ExpressionAt, FactorAt}
 use Rattle.nodes.specs.Nodes.{Node, expression, SpellsNodes}
 use Rattle.nodes.proofs.Laws.{below, expression-is, at_row, walked-ok, walked-err}
@@ -38,15 +33,15 @@ Due L s n i es j = SpellsNodes L s n i (expressions es) j
 
 -- check_security of each in turn
 abbrev pub security_all : List Expression → Checked
-security_all [] = Ok
+security_all [] = Ok tt
 security_all (e ∷ es) = both (security e) (security_all es)
 
-both_ok : (c : Checked) → c ≡ both c Ok
-both_ok Ok = refl
+both_ok : (c : Checked) → c ≡ both c (Ok tt)
+both_ok (Ok _) = refl
 both_ok (Err x) = refl
 
 both-both : (a b c : Checked) → both (both a b) c ≡ both a (both b c)
-both-both Ok b c = refl
+both-both (Ok _) b c = refl
 both-both (Err x) b c = refl
 
 -- some before others
@@ -64,7 +59,7 @@ module _ (L : ℕ → Line) (s : List ℕ) where
   due-first [] SpellsNodes.nil h = absurd (omega arith)
   due-first (e ∷ es) (SpellsNodes.expression {j = k} u v) h = (e, es, k, u, counted L s v (omega arith), refl)
 
-  due-none : (es : List Expression) {n i j : ℕ} → Due L s n i es j → n ≤ 0 → (i ≡ j) × (security_all es ≡ Ok)
+  due-none : (es : List Expression) {n i j : ℕ} → Due L s n i es j → n ≤ 0 → (i ≡ j) × (security_all es ≡ Ok tt)
   due-none [] SpellsNodes.nil h = (refl, refl)
   due-none (e ∷ es) (SpellsNodes.expression u v) h = absurd (omega arith)
 
@@ -99,7 +94,7 @@ module _ (L : ℕ → Line) (s : List ℕ) where
   operands-are {i} {j} {e} {x} sp l = operands-from i j e x (expression-is sp l)
 
   -- what is due after the line of the first, which passed: its operands too
-  due-more : (es : List Expression) {n i j d : ℕ} {x : ExpressionLine} → Due L s n i es j → 0 < n → L i ≡ Line.Expression x → overflow s x ≡ Ok → expression_part x ≡ expression_kind → d ≡ n - 1 + count_of (Line.Expression x) → (fs : List Expression) × Due L s d (i + 1) fs j × (security_all es ≡ security_all fs)
+  due-more : (es : List Expression) {n i j d : ℕ} {x : ExpressionLine} → Due L s n i es j → 0 < n → L i ≡ Line.Expression x → overflow s x ≡ Ok tt → expression_part x ≡ expression_kind → d ≡ n - 1 + count_of (Line.Expression x) → (fs : List Expression) × Due L s d (i + 1) fs j × (security_all es ≡ security_all fs)
   due-more es v h l ok o c =
       let (a, fs, k, u, w, p) = due-first es v h in
       let (gs, q, z) = operands-are u l in
@@ -114,7 +109,7 @@ module _ (L : ℕ → Line) (s : List ℕ) where
       (fs, at_row (SpellsNodes L s (n - 1)) (g f k (rw add-one y)) w, p ∙ ap (λ e. both (security e) (security_all fs)) q)
 
 -- below a line that is no signature check stand expressions
-pub entered : (x : ExpressionLine) → OneOf (0 ∷ 1 ∷ 2 ∷ 3 ∷ 4 ∷ 5 ∷ 6 ∷ 7 ∷ 8 ∷ 9 ∷ []) (tag_of the_type x) → expression_part x ≡ expression_kind
+pub entered : (x : ExpressionLine) → ((w : Location) → x ≡ ExpressionLine.CheckSigExpression w → ⊥) → expression_part x ≡ expression_kind
 entered (ExpressionLine.Variable w x) h = refl
 entered (ExpressionLine.NumberLiteral w v) h = refl
 entered (ExpressionLine.BooleanLiteral w b) h = refl
@@ -125,7 +120,7 @@ entered (ExpressionLine.BinaryMathExpression w o) h = refl
 entered (ExpressionLine.UnaryMathExpression w o) h = refl
 entered (ExpressionLine.UnaryCryptoExpression w o) h = refl
 entered (ExpressionLine.ByteExpression w) h = refl
-entered (ExpressionLine.CheckSigExpression w) h = absurd (miss (0 ∷ 1 ∷ 2 ∷ 3 ∷ 4 ∷ 5 ∷ 6 ∷ 7 ∷ 8 ∷ 9 ∷ []) 10 tt h)
+entered (ExpressionLine.CheckSigExpression w) h = absurd (h w refl)
 
 -- the loop over the expression at row i: n are due from row m on
 pub record Rest (s t : List ℕ) (i m n : ℕ) : Type 0 where
@@ -139,7 +134,7 @@ rest_all {s} {t} st = record {
 }
 
 module _ {s t : List ℕ} {i m n : ℕ} (r : Rest s t i m n) where
-  pub rest-done : n ≤ 0 → (e : Expression) (j : ℕ) → SpellsExpression (line_in t) s i e j → Pass m ≡ walked (security e) j
+  pub rest-done : n ≤ 0 → (e : Expression) (j : ℕ) → SpellsExpression (line_in t) s i e j → Ok m ≡ walked (security e) j
   rest-done h e j sp =
       let (es, v, q) = r.same e j sp in
       let (d, p) = due-none (line_in t) s es v h in
@@ -171,14 +166,14 @@ module _ {s t : List ℕ} {i m n : ℕ} (r : Rest s t i m n) where
         below (SpellsExpression (line_in t) s) st u (omega (arith, nodes-many (line_in t) s v))
 
     module _ {x : ExpressionLine} (l : line_in t m ≡ Line.Expression x) where
-      pub rest-fault : {y : CompileError} → overflow s x ≡ Err y → (e : Expression) (j : ℕ) → SpellsExpression (line_in t) s i e j → Fault y ≡ walked (security e) j
+      pub rest-fault : {y : CompileError} → overflow s x ≡ Err y → (e : Expression) (j : ℕ) → SpellsExpression (line_in t) s i e j → Err y ≡ walked (security e) j
       rest-fault y e j sp =
           let (es, v, q) = r.same e j sp in
           let (a, fs, k, u, w, p) = due-first (line_in t) s es v h in
           let (gs, o, z) = operands-are (line_in t) s u l in
           walked-err j (q ∙ p ∙ ap (λ c. both c (security_all fs)) (o ∙ ap (λ c. both c (security_all gs)) y))
 
-      pub rest_more : {d : ℕ} → overflow s x ≡ Ok → expression_part x ≡ expression_kind → d ≡ n - 1 + count_of (Line.Expression x) → Rest s t i (m + 1) d
+      pub rest_more : {d : ℕ} → overflow s x ≡ Ok tt → expression_part x ≡ expression_kind → d ≡ n - 1 + count_of (Line.Expression x) → Rest s t i (m + 1) d
       rest_more ok o c = rest-step (λ es j v. due-more (line_in t) s es v h l ok o c)
 
     module _ {w : Location} (l : line_in t m ≡ Line.Expression (ExpressionLine.CheckSigExpression w)) where

@@ -1,82 +1,55 @@
 // A literal's length, measured over its digits in the listing.
-ghost use Rattle.std.specs.Prelude.{◌≡◌, true, ◌&&◌, ◌↔◌, ℕ, ◌+◌, ◌*◌, ◌≤◌, ◌<◌, length, take, drop, get_or};
-ghost use Rattle.rules.specs.Keys.{within, is_digit, all_digits, pushed};
-ghost use Rattle.text.specs.Text.{is_hex_digit, hex_value, unhex, bytes_of};
-
-use text::Place;
-
-fn wide(b: u8) -> u32
-    ensures { result ≡ b }
-{
-    b as u32
-}
+ghost use Rattle.std.specs.Prelude.{◌≡◌, ◌&&◌, ◌+◌, ◌*◌, ◌<◌, length};
+ghost use Rattle.std.specs.List.{list_all};
+ghost use Rattle.rules.specs.Keys.{is_digit, all_digits, pushed};
+ghost use Rattle.text.specs.Text.{is_hex_digit, hex_value, unhex};
+ghost use Rattle.limits.specs.Pairs.{AllPairs};
 
 // What a lower-case hex digit stands for. A byte that is none gets what the definition gives it, so nothing is asked of the listing's bytes.
+#[tactic(auto, unfolding(text::specs::Text::hex_value))]
 fn hex_value(b: u8) -> u32
     ensures value { result ≡ hex_value b }
     ensures upper_bound { result < 256 }
 {
-    if b < 48 {
-        return 0;
+    match b {
+        b'0'..=b'9' => u32::from(b - b'0'),
+        87.. => u32::from(b - 87),
+        _ => 0,
     }
-    if b <= 57 {
-        return wide(b) - 48;
-    }
-    if b < 87 {
-        return 0;
-    }
-    wide(b) - 87
-}
-
-// From `low` to `high`, both included.
-fn is_within(low: u32, high: u32, b: u32) -> bool
-    ensures { result ≡ within low high b }
-{
-    if low <= b {
-        return b <= high;
-    }
-    false
 }
 
 // A hex digit of either case.
+#[tactic(auto, unfolding(rules::specs::Keys::is_digit, rules::specs::Keys::within))]
 pub fn is_digit(b: u32) -> bool
     ensures { result ≡ is_digit b }
 {
-    if is_within(48, 57, b) {
-        return true;
-    }
-    if is_within(65, 70, b) {
-        return true;
-    }
-    is_within(97, 102, b)
+    matches!(b, 48..=57 | 65..=70 | 97..=102)
 }
 
 // The byte that two digits of the listing spell.
 pub fn byte_of(a: u8, b: u8) -> u32
-    ensures { result ≡ hex_value a * 16 + hex_value b }
+    ensures value { result ≡ hex_value a * 16 + hex_value b }
+    ensures upper_bound { result < 4352 }
 {
-    let high = hex_value(a);
-    let low = hex_value(b);
-    high * 16 + low
+    hex_value(a) * 16 + hex_value(b)
 }
 
 // Whether two lower-case hex digits spell a hex digit of either case, tested without a branch: '0' to '9' are 30 to 39, 'A' to 'F' 41 to 46, 'a' to 'f' 61 to 66.
 fn is_digit_pair(a: u8, b: u8) -> bool
     ensures { result ≡ (is_hex_digit a && is_hex_digit b && is_digit (hex_value a * 16 + hex_value b)) }
 {
-    ((a == 51) & (48 <= b) & (b <= 57)) | (((a == 52) | (a == 54)) & (49 <= b) & (b <= 54))
+    ((a == b'3') & (b'0' <= b) & (b <= b'9'))
+        | (((a == b'4') | (a == b'6')) & (b'1' <= b) & (b <= b'6'))
 }
 
-// Whether the 32 bytes from `at` on are lower-case hex digits that spell hex digits. Each pair is tested, with no way out before the last, so that they are tested together.
-fn is_digit_run(listing: &[u8], at: usize) -> bool
-    requires { at + 32 ≤ length listing.now }
-    ensures { (result ≡ true) ↔ (((j : ℕ) → j < 32 → is_hex_digit (get_or listing.now (at + j) 0) ≡ true) × (all_digits (unhex (take 32 (drop at listing.now))) ≡ true)) }
+// Whether 32 bytes are lower-case hex digits that spell hex digits. Each pair is tested, with no way out before the last, so that they are tested together.
+fn is_digit_run(run: &[u8]) -> bool
+    requires { length run.now ≡ 32 }
+    ensures { result ≡ (list_all is_hex_digit run.now && all_digits (unhex run.now)) }
 {
     let mut ok = true;
-    let mut k: usize = 0;
-    while k < 16 {
-        ok = ok & is_digit_pair(listing[at + 2 * k], listing[at + 2 * k + 1]);
-        k += 1;
+    for k in 0..16 {
+        ok &= is_digit_pair(run[2 * k], run[2 * k + 1]);
     }
     ok
 }
@@ -85,56 +58,40 @@ fn is_digit_run(listing: &[u8], at: usize) -> bool
 fn is_spelled_digit(a: u8, b: u8) -> bool
     ensures { result ≡ is_digit (hex_value a * 16 + hex_value b) }
 {
-    if is_digit_pair(a, b) {
-        return true;
-    }
-    is_digit(byte_of(a, b))
+    is_digit_pair(a, b) || is_digit(byte_of(a, b))
 }
 
-// Whether the bytes that `len` digits of the listing spell, from `at` on, are all hex digits, pair by pair. Each digit is read at most once.
-fn digits_rest(listing: &[u8], at: usize, len: usize) -> bool
-    requires { at + len ≤ length listing.now }
-    ensures { result ≡ all_digits (unhex (take len (drop at listing.now))) }
+// Whether each pair of digits passes a test, up to the first that does not.
+pub fn all_pairs<F: Fn(u8, u8) -> bool>(digits: &[u8], test: F) -> bool
+    requires { F.IsAlwaysCallable test }
+    ensures { AllPairs (F.post test) digits.now result }
 {
-    let mut i = at;
-    let mut left = len;
-    while 1 < left {
-        if !is_spelled_digit(listing[i], listing[i + 1]) {
+    for j in 0..digits.len() / 2 {
+        if !test(digits[2 * j], digits[2 * j + 1]) {
             return false;
         }
-        i += 2;
-        left -= 2;
     }
     true
 }
 
-// Whether the bytes that `len` digits of the listing spell, from `at` on, are all hex digits: 16 pairs at a time while all are, the rest pair by pair. Each digit is read at most twice.
-pub fn are_digits(listing: &[u8], at: usize, len: usize) -> bool
-    requires { at + len ≤ length listing.now }
-    ensures { result ≡ all_digits (unhex (take len (drop at listing.now))) }
+// Whether the bytes that digits spell are all hex digits: 16 pairs at a time while all are, the rest pair by pair. Each digit is read at most twice.
+pub fn are_digits(digits: &[u8]) -> bool
+    ensures { result ≡ all_digits (unhex digits.now) }
 {
-    let mut i = at;
-    let mut left = len;
-    while 32 <= left {
-        if !is_digit_run(listing, i) {
-            return digits_rest(listing, i, left);
-        }
-        i += 32;
-        left -= 32;
+    let mut rest = digits;
+    while 32 <= rest.len() && is_digit_run(&rest[..32]) {
+        rest = &rest[32..];
     }
-    digits_rest(listing, i, left)
+    all_pairs(rest, is_spelled_digit)
 }
 
 // A literal's length: half its bytes if they are an even count of hex digits, else its bytes.
-pub fn literal_length(listing: &[u8], x: Place) -> usize
-    requires { x.at + x.len ≤ length listing.now }
-    ensures { result ≡ pushed (bytes_of listing.now x) }
+#[tactic(auto, unfolding(rules::specs::Keys::pushed, rules::specs::Keys::is_hex), using(crate::proofs::Digits::unhex_length))]
+pub fn literal_length(digits: &[u8]) -> usize
+    ensures { result ≡ pushed (unhex digits.now) }
 {
-    let count = x.len / 2;
-    if count % 2 == 1 {
-        return count;
-    }
-    if are_digits(listing, x.at, x.len) {
+    let count = digits.len() / 2;
+    if count % 2 == 0 && are_digits(digits) {
         count / 2
     } else {
         count

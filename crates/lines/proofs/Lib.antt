@@ -1,1 +1,1 @@
-mod Located
+pub mod Located

@@ -1,66 +1,84 @@
--- What the code that stores a line cites: a form that begins with a location, and the form of a letter. Assumes nothing.
-use Prim.Native.Nat.{ℕ, ◌+◌, ◌<◌}
-use mathlib.Core.List.{List}
-use mathlib.Core.Path.{◌≡◌, refl, sym, ap, ◌∙◌, subst}
-use lib.ListN.{length, drop, get_or}
+-- A form that begins with a location: what follows it gives the row; and the form of a letter.
+use Rattle.std.proofs.Common.{◌≡◌, ℕ, ◌+◌, ◌<◌, ◌≤◌, ◌^◌, List, length, get_or, drop, refl, sym, ap, ◌∙◌, arith}
+use Rattle.std.specs.Prelude.{Option, Some, None, option_map, option_and_then}
 use Rattle.ast.specs.declared.Location.{Location}
-use Rattle.text.specs.declared.LocationRead.{LocationRead}
-use Rattle.text.specs.Text.{Got, got, failed, Reader, read_at, ◌>>=◌, ◌<∘>◌, yield, fail, index, choice, location}
-use Rattle.text.proofs.Places.{bind-got, location-keeps}
-use Rattle.text.proofs.Fields.{choice-got, choice-failed}
-use Rattle.text.proofs.Told.{told-got, location-tells}
+use Rattle.text.specs.declared.Cursor.{Cursor}
+use Rattle.text.specs.Text.{Got, got, failed, Reader, read, fail, ◌>>=◌, ◌<∘>◌, yield, index, choice, location}
+use Rattle.text.proofs.Places.{location-keeps, index-keeps}
 use Rattle.listing.specs.declared.Line.{Line}
-use Rattle.listing.specs.Forms.{with, with₂, forms, fields_of, form_at, line_at}
-use Rattle.listing.proofs.Lines.{line-form, placed-got, Apart, apart_from, apart-fails}
+use Rattle.listing.specs.Forms.{with, forms, fields_of, closed, line}
+use Rattle.listing.proofs.Lines.{line-past, line-form, unplaced-failed, Apart, apart_from, apart-fails}
+use Rattle.rows.specs.declared.Words.{Words}
 use Rattle.rows.specs.Rows.{row_with, row_of}
-use Rattle.forms.specs.Stores.{both, Stores}
-use Rattle.forms.proofs.Stores.{stores-failed, stores_same, Numbered, number-back}
+use Rattle.forms.specs.Rowed.{row_read, ended_row}
+use Rattle.forms.proofs.Rowed.{rowed-bind, rowed-choice, rowed-map, rowed-end, bind_assoc, read-got, Numbered, number-back}
 
--- one of them is read as its number
-choice-index : {A B L : Type 0} (f : A → L) (g : B → A) (xs : List B) (d : B) (s : List ℕ) (n : ℕ) → (f <∘> g <∘> choice xs) n (drop n s) ≡ ((λ v. f (g (get_or xs v d))) <∘> index (length xs)) n (drop n s)
+-- one of some variants, as its number
+choice_as : {A B : Type 0} (f : A → Line) (g : B → A) (xs : List B) (dflt : B) (d : Cursor) → row_read (f <∘> (choice xs >>= λ b. yield (g b))) d ≡ row_read ((λ v. f (g (get_or xs v dflt))) <∘> index (length xs)) d
 unfolding ◌<∘>◌ ◌>>=◌ yield
-choice-index f g xs d s n = go (index (length xs) n (drop n s)) refl
+choice_as f g xs dflt d =
+    let h : ℕ × Cursor → Option (Words × Cursor) = λ p. ended_row (row_of (f (g (get_or xs p.0 dflt)))) p.1 in
+    ap (λ r. row_read r d) (bind_assoc (choice xs) (λ b. yield (g b)) (λ a. yield (f a))) ∙
+    rowed-choice xs (λ b. yield (f (g b))) h dflt d (λ v e l. rowed-end (f (g (get_or xs v dflt))) e) ∙
+    sym (rowed-map (λ v. f (g (get_or xs v dflt))) (index (length xs)) h (index-keeps (length xs)) d (λ v e. refl))
+
+-- after a location
+module _ (c : Cursor) where
+  module _ (w : Location) (d : Cursor) (h : read location c ≡ Some (w, d)) where
+    pub bare : (g : Location → Reader Line) → row_read (location >>= g) c ≡ row_read (g w) d
+    bare g = rowed-bind location g (λ p. row_read (g p.0) p.1) location-keeps c (λ a e q. refl) ∙ ap (option_and_then _) h
+
+    pub mapped : {A : Type 0} (f : A → Line) (g : Location → Reader A) → row_read (f <∘> (location >>= g)) c ≡ row_read (f <∘> g w) d
+    unfolding ◌<∘>◌
+    mapped f g = ap (λ r. row_read r c) (bind_assoc location g (λ a. yield (f a))) ∙ bare (λ w. g w >>= λ a. yield (f a))
+
+    -- one of some variants, from the form with its number
+    pub operator : {A B : Type 0} (f : A → Line) (g : Location → B → A) (number : B → ℕ) (xs : List B) → Numbered number 0 xs → (dflt : B) (k : ℕ) → ((b : B) → row_with k w (number b) 0 0 0 ≡ row_of (f (g w b))) → {x : Option (Words × Cursor)} → ((l : ℕ → Line) → ((v : ℕ) → v < length xs → row_with k w v 0 0 0 ≡ row_of (l v)) → x ≡ row_read (l <∘> index (length xs)) d) → x ≡ row_read (f <∘> with (choice xs) g) c
+    unfolding with
+    operator f g number xs order dflt k rows y =
+        y (λ v. f (g w (get_or xs v dflt))) (λ v i. ap (λ a. row_with k w a 0 0 0) (number-back number xs order dflt v i) ∙ rows (get_or xs v dflt)) ∙
+        sym (mapped f (λ w. choice xs >>= λ b. yield (g w b)) ∙ choice_as f (g w) xs dflt d)
+
+    -- the listing after a location is the same
+    pub small_after : length c.listing.now < 2 ^ 32 → length d.listing.now < 2 ^ 32
+    small_after l = let same = ap (λ x. length x.listing.now) (read-got location location-keeps c {d = d} h).1 in omega (arith, same)
+
+-- fields that are not read
+rowed-failed : (f : Reader Line) (c : Cursor) → f c.at (drop c.at c.listing.now) ≡ failed → row_read f c ≡ None
+unfolding row_read read closed ◌>>=◌
+rowed-failed f c h = rw (row_read, read, closed, ◌>>=◌, h) refl
+
+not_read : {A : Type 0} (r : Reader A) (c : Cursor) → read r c ≡ None → r c.at (drop c.at c.listing.now) ≡ failed
+unfolding read
+not_read {A} r c h = go (r c.at (drop c.at c.listing.now)) refl
   where
-    go : (y : Got ℕ) → index (length xs) n (drop n s) ≡ y → (f <∘> g <∘> choice xs) n (drop n s) ≡ ((λ v. f (g (get_or xs v d))) <∘> index (length xs)) n (drop n s)
-    go (got v m u) e = rw (choice-got xs s n d e, e, ◌>>=◌)
-    go failed e = rw (choice-failed xs s n e, e, ◌>>=◌)
+    go : (x : Got A) → r c.at (drop c.at c.listing.now) ≡ x → r c.at (drop c.at c.listing.now) ≡ failed
+    go (got a n s) e = absurd (let z : ◌≡◌ {A = Option (A × Cursor)} (Some (a, record c { at = n })) None = rw (read, e) at h in let o : ◌≡◌ {A = ℕ} 0 1 = cc in omega arith)
+    go failed e = e
 
--- a location, and what follows it
-placed : (s : List ℕ) (n : ℕ) {x : LocationRead} → x ≡ read_at LocationRead.Got LocationRead.Failed location s n → {w : Location} {m : ℕ} → x ≡ LocationRead.Got w m → location n (drop n s) ≡ got w m (drop m s)
-placed s n h e = told-got LocationRead.Got LocationRead.Failed location-tells location location-keeps s n h e
-
-module _ (s : List ℕ) (n : ℕ) {x : LocationRead} (h : x ≡ read_at LocationRead.Got LocationRead.Failed location s n) {w : Location} {m : ℕ} (e : x ≡ LocationRead.Got w m) {i : ℕ} {t t' : List ℕ} {r : ℕ} where
-  pub stores-alone : {A : Type 0} (f : A → Line) (g : Location → A) → Stores (form_at (yield (f (g w))) s m) i t t' r → Stores (form_at (f <∘> g <∘> location) s n) i t t' r
-  unfolding ◌<∘>◌ ◌>>=◌ yield
-  stores-alone f g y = stores_same (f <∘> g <∘> location) s n (yield (f (g w))) m (placed-got f (λ w. yield (g w)) s n (placed s n h e)) y
-
-  pub stores-with : {A B : Type 0} (f : A → Line) (q : Reader B) (g : Location → B → A) → Stores (form_at (f <∘> g w <∘> q) s m) i t t' r → Stores (form_at (f <∘> with q g) s n) i t t' r
-  unfolding with ◌<∘>◌
-  stores-with f q g y = stores_same (f <∘> with q g) s n (f <∘> g w <∘> q) m (placed-got f (λ w. q >>= λ a. yield (g w a)) s n (placed s n h e)) y
-
-  pub stores-with₂ : {A B C : Type 0} (f : A → Line) (p : Reader B) (q : Reader C) (g : Location → B → C → A) → Stores (form_at (f <∘> both p q (g w)) s m) i t t' r → Stores (form_at (f <∘> with₂ p q g) s n) i t t' r
-  unfolding with₂ both
-  stores-with₂ f p q g y = stores_same (f <∘> with₂ p q g) s n (f <∘> both p q (g w)) m (placed-got f (λ w. p >>= λ a. q >>= λ b. yield (g w a b)) s n (placed s n h e)) y
-
-  pub stores-bare₂ : {B C : Type 0} (p : Reader B) (q : Reader C) (g : Location → B → C → Line) → Stores (form_at (both p q (g w)) s m) i t t' r → Stores (form_at (with₂ p q g) s n) i t t' r
-  unfolding with₂ both
-  stores-bare₂ p q g y = stores_same (with₂ p q g) s n (both p q (g w)) m (bind-got location (λ w. p >>= λ a. q >>= λ b. yield (g w a b)) s n (placed s n h e)) y
-
-  -- one of some variants, from the form with its number
-  pub stores-operator : {A B : Type 0} (f : A → Line) (g : Location → B → A) (number : B → ℕ) (xs : List B) → Numbered number 0 xs → (d : B) (k : ℕ) → ((b : B) → row_with k w (number b) 0 0 0 ≡ row_of (f (g w b))) → ((l : ℕ → Line) → ((v : ℕ) → v < length xs → row_with k w v 0 0 0 ≡ row_of (l v)) → Stores (form_at (l <∘> index (length xs)) s m) i t t' r) → Stores (form_at (f <∘> with (choice xs) g) s n) i t t' r
-  stores-operator f g number xs order d k rows y =
-      stores-with f (choice xs) g (stores_same (f <∘> g w <∘> choice xs) s m ((λ v. f (g w (get_or xs v d))) <∘> index (length xs)) m (choice-index f (g w) xs d s m) (y (λ v. f (g w (get_or xs v d))) (λ v i. ap (λ a. row_with k w a 0 0 0) (number-back number xs order d v i) ∙ rows (get_or xs v d))))
-
--- the form of a letter, after it and from it on
-pub stores-form : (k b : ℕ) (s : List ℕ) (n : ℕ) {i : ℕ} {t t' : List ℕ} {r : ℕ} → k ≡ b → Stores (form_at (fields_of forms b) s n) i t t' r → Stores (form_at (fields_of forms k) s n) i t t' r
-stores-form k b s n {i} {t} {t'} {r} e x = subst (λ b. Stores (form_at (fields_of forms b) s n) i t t' r) (sym e) x
-
-pub stores-line : (s : List ℕ) (n b : ℕ) {i : ℕ} {t t' : List ℕ} {r : ℕ} → n < length s → get_or s n 0 ≡ b → Stores (form_at (fields_of forms b) s (n + 1)) i t t' r → Stores (line_at s n) i t t' r
-stores-line s n b {i} {t} {t'} {r} h e x = subst (λ y. Stores y i t t' r) (line-form s n b h e) x
+-- where no location stands, none of the forms that have one does
+pub unlocated : (c : Cursor) (k : ℕ) → read location c ≡ None → (k ≡ 84 → ⊥) → (k ≡ 68 → ⊥) → (k ≡ 66 → ⊥) → row_read (fields_of forms k) c ≡ None
+unlocated c k h contract declaration block = rowed-failed (fields_of forms k) c (unplaced-failed c.listing.now c.at (not_read location c h) k contract declaration block)
 
 -- a letter of no form with a location
-pub stores-none : (k : ℕ) (s : List ℕ) (n i : ℕ) (t : List ℕ) → (k ≡ 84 → ⊥) → (k ≡ 68 → ⊥) → (k ≡ 66 → ⊥) → Apart k (Unit {0} × (k ≡ 80 → ⊥)) (drop 4 forms) → Stores (form_at (fields_of forms k) s n) i t t 0
+pub no_form : (k : ℕ) (c : Cursor) → (k ≡ 84 → ⊥) → (k ≡ 68 → ⊥) → (k ≡ 66 → ⊥) → Apart k (Unit {0} × (k ≡ 80 → ⊥)) (drop 4 forms) → row_read (fields_of forms k) c ≡ None
 unfolding fail
-stores-none k s n i t contract declaration block rest =
+no_form k c contract declaration block rest =
     let none = apart_from k (Unit {0} × (k ≡ 80 → ⊥)) ((((Unit {0} × (k ≡ 84 → ⊥)) × (k ≡ 68 → ⊥)) × (k ≡ 80 → ⊥)) × (k ≡ 66 → ⊥)) (drop 4 forms) (λ x. ((((tt, contract), declaration), x.1), block)) rest in
-    stores-failed (fields_of forms k) s n i t (ap (λ (r : Reader Line). r n (drop n s)) (apart-fails k (Unit {0}) forms none))
+    rowed-failed (fields_of forms k) c (ap (λ (r : Reader Line). r c.at (drop c.at c.listing.now)) (apart-fails k (Unit {0}) forms none))
+
+-- a line's row, and the cursor after it
+abbrev pub row_and_rest : Line × Cursor → Words × Cursor
+row_and_rest p = (row_of p.0, p.1)
+
+-- no line past the end
+pub no_line : (c : Cursor) → length c.listing.now ≤ c.at → None ≡ option_map row_and_rest (read line c)
+no_line c h = sym (ap (option_map row_and_rest) (line-past c h))
+
+-- the form of a letter, after it and from it on
+pub letter_row : (k b : ℕ) (c : Cursor) {x : Option (Words × Cursor)} → k ≡ b → x ≡ row_read (fields_of forms b) c → x ≡ row_read (fields_of forms k) c
+letter_row k b c e x = x ∙ ap (λ k. row_read (fields_of forms k) c) (sym e)
+
+pub line_row : (c : Cursor) (k : ℕ) {x : Option (Words × Cursor)} → c.at < length c.listing.now → k ≡ get_or c.listing.now c.at 0 → x ≡ row_read (fields_of forms k) (record c { at = c.at + 1 }) → x ≡ option_map (λ p. (row_of p.0, p.1)) (read line c)
+unfolding row_read
+line_row c k h e x = x ∙ ap (λ k. row_read (fields_of forms k) (record c { at = c.at + 1 })) e ∙ sym (ap (option_map (λ p. (row_of p.0, p.1))) (line-form c h))

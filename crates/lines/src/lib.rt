@@ -1,62 +1,73 @@
-// A line of a listing, stored as a row: its form by its letter, and the fields of that form.
+// A line of a listing, as a row: its form by its letter, and the fields of that form.
 #![tactic(auto)]
 
-ghost use Rattle.std.specs.Prelude.{◌≡◌, ◌^◌, ◌<◌, length};
-ghost use Rattle.listing.specs.Forms.{forms, fields_of, form_at, line_at};
-ghost use Rattle.rows.specs.Rows.{HasRow};
-ghost use Rattle.forms.specs.Stores.{Stores};
+ghost use Rattle.std.specs.Prelude.{◌≡◌, ◌^◌, ◌<◌, length, option_map, Some};
+ghost use Rattle.text.specs.declared.Cursor.{Cursor};
+ghost use Rattle.text.specs.Text.{read, location};
+ghost use Rattle.listing.specs.Forms.{forms, fields_of, line};
+ghost use Rattle.rows.specs.Rows.{row_of};
+ghost use Rattle.forms.specs.Rowed.{row_read};
 
+use ast::Location;
 use forms::{
-    store_contract, store_counted, store_item, store_literal, store_multi, store_name,
-    store_number, store_operator, store_plain, store_wait,
+    contract_row, counted_row, item_row, literal_row, multi_row, name_row, number_row,
+    operator_row, plain_row, wait_row,
 };
 use listing::letters;
-use text::LocationRead;
+use rows::Words;
+use text::Cursor;
 use words::read_location;
 
 // The forms with a location. It is read first, at one place for all of them.
-fn store_located(listing: &[u8], at: usize, work: &mut [u32], i: usize, letter: u8) -> usize
-    requires listing_len_bound { (length listing.now < 2 ^ 32) × HasRow work.old i }
-    requires fact { (letter ≡ 84 → ⊥) × (letter ≡ 68 → ⊥) × (letter ≡ 66 → ⊥) }
-    ensures { Stores (form_at (fields_of forms letter) listing.now at) i work.old work.new result }
+fn located_row(c: Cursor, letter: u8) -> Option<(Words, Cursor)>
+    requires small { length c.listing.now < 2 ^ 32 }
+    requires located { (letter ≡ 84 → ⊥) × (letter ≡ 68 → ⊥) × (letter ≡ 66 → ⊥) }
+    ensures { result ≡ row_read (fields_of forms letter) c.entry }
 {
-    let LocationRead::Got(w, n) = read_location(listing, at) else {
-        return 0;
-    };
+    let (w, c) = read_location(c)?;
+    fields_row(c, letter, w)
+}
+
+// What follows the location w that stands at the cursor d. It is a function of its own so that the compiler takes no form for one seldom met.
+fn fields_row(c: Cursor, letter: u8, w: Location) -> Option<(Words, Cursor)>
+    requires small { length c.listing.now < 2 ^ 32 }
+    requires located { (letter ≡ 84 → ⊥) × (letter ≡ 68 → ⊥) × (letter ≡ 66 → ⊥) }
+    ensures { (d : Cursor) → read location d ≡ Some (w, c.entry) → result ≡ row_read (fields_of forms letter) d }
+{
     match letter {
-        b'P' => store_item(listing, n, work, i, w),
-        b'I' => store_operator(listing, n, work, i, letters::IF, w, 2),
-        b'L' => store_wait(listing, n, work, i, w),
-        b'V' => store_plain(listing, n, work, i, letters::VERIFY, w),
-        b'E' => store_plain(listing, n, work, i, letters::RETURN, w),
-        b'v' => store_name(listing, n, work, i, w),
-        b'n' => store_number(listing, n, work, i, w),
-        b'b' => store_operator(listing, n, work, i, letters::BOOLEAN, w, 2),
-        b's' => store_literal(listing, n, work, i, w),
-        b'l' => store_operator(listing, n, work, i, letters::LOGIC, w, 2),
-        b'c' => store_operator(listing, n, work, i, letters::COMPARE, w, 8),
-        b'm' => store_operator(listing, n, work, i, letters::ARITHMETIC, w, 4),
-        b'u' => store_operator(listing, n, work, i, letters::UNARY, w, 5),
-        b'h' => store_operator(listing, n, work, i, letters::HASH, w, 2),
-        b'z' => store_plain(listing, n, work, i, letters::SIZE, w),
-        b'g' => store_plain(listing, n, work, i, letters::SIGNATURES, w),
-        b'S' => store_plain(listing, n, work, i, letters::SINGLE, w),
-        b'M' => store_multi(listing, n, work, i, w),
-        _ => 0,
+        b'P' => item_row(c, w),
+        b'I' => operator_row(c, letters::IF, w, 2),
+        b'L' => wait_row(c, w),
+        b'V' => plain_row(c, letters::VERIFY, w),
+        b'E' => plain_row(c, letters::RETURN, w),
+        b'v' => name_row(c, w),
+        b'n' => number_row(c, w),
+        b'b' => operator_row(c, letters::BOOLEAN, w, 2),
+        b's' => literal_row(c, w),
+        b'l' => operator_row(c, letters::LOGIC, w, 2),
+        b'c' => operator_row(c, letters::COMPARE, w, 8),
+        b'm' => operator_row(c, letters::ARITHMETIC, w, 4),
+        b'u' => operator_row(c, letters::UNARY, w, 5),
+        b'h' => operator_row(c, letters::HASH, w, 2),
+        b'z' => plain_row(c, letters::SIZE, w),
+        b'g' => plain_row(c, letters::SIGNATURES, w),
+        b'S' => plain_row(c, letters::SINGLE, w),
+        b'M' => multi_row(c, w),
+        _ => None,
     }
 }
 
-// The line that stands at a position, stored as row i. Each byte of a line is looked at a constant number of times.
-pub fn store_line(listing: &[u8], at: usize, work: &mut [u32], i: usize) -> usize
-    requires listing_len_bound { (length listing.now < 2 ^ 32) × HasRow work.old i }
-    requires at_in_bounds { at < length listing.now }
-    ensures { Stores (line_at listing.now at) i work.old work.new result }
+// The line that stands at a cursor, as a row, and the cursor after its byte 10. Each byte of a line is looked at a constant number of times.
+pub fn read_line(c: Cursor) -> Option<(Words, Cursor)>
+    requires { length c.listing.now < 2 ^ 32 }
+    ensures { result ≡ option_map (λ p. (row_of p.0, p.1)) (read line c.entry) }
 {
-    let letter = listing[at];
+    let letter = *c.listing.get(c.at)?;
+    let fields = Cursor { at: c.at + 1, ..c };
     match letter {
-        b'T' => store_contract(listing, at + 1, work, i),
-        b'D' => store_counted(listing, at + 1, work, i, letters::DECLARATION),
-        b'B' => store_counted(listing, at + 1, work, i, letters::BLOCK),
-        _ => store_located(listing, at + 1, work, i, letter),
+        b'T' => contract_row(fields),
+        b'D' => counted_row(fields, letters::DECLARATION),
+        b'B' => counted_row(fields, letters::BLOCK),
+        _ => located_row(fields, letter),
     }
 }

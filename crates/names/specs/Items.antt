@@ -1,5 +1,6 @@
 -- The items of a declaration as rows of a table, and the position of a name among them.
-use Rattle.std.specs.Prelude.{ℕ, zero, suc, ◌+◌, ◌≤◌, true, false, List, [], ◌∷◌, length}
+use Rattle.std.specs.Prelude.{ℕ, zero, suc, ◌+◌, ◌≤◌, Option, List, [], ◌∷◌, length}
+use Rattle.std.specs.List.{position_from}
 use Rattle.std.proofs.Math.Option.{some, none}
 use Rattle.ast.specs.declared.Type.{«Type» as ItemType}
 use Rattle.ast.specs.Tree.{Name, same, StackParam, unplaced}
@@ -11,8 +12,6 @@ use Rattle.reader.specs.Reading.{item}
 use Rattle.reader.specs.Spells.{SpellsItems}
 use Rattle.nodes.specs.Stands.{Stands, Holds}
 use Rattle.names.specs.declared.Item.{Item}
-use Rattle.names.specs.declared.Found.{Found}
-use Rattle.names.specs.declared.Found.TheVariants.{At, Missing}
 
 -- n items stand from row i on, one line each
 abbrev pub ItemsAt : List ℕ → List ℕ → ℕ → ℕ → Type 0
@@ -48,10 +47,6 @@ unfoldable pub items_down : List ℕ → List ℕ → ℕ → ℕ → List Stack
 items_down s t i zero = []
 items_down s t i (suc n) = item_in s t (i + n) ∷ items_down s t i n
 
--- the position of the first item with a name, the first of these being at k
-unfoldable pub found_from : ℕ → List StackParam → Name → Found
-found_from k [] x = Missing
-found_from k (p ∷ ps) x = elim (same x p.identifier) [ true ↦ At k | false ↦ found_from (suc k) ps x ]
-
-unfoldable pub found_in : List StackParam → Name → Found
-found_in ps x = found_from 0 ps x
+-- the position of the first item with a name
+abbrev pub found_in : List StackParam → Name → Option ℕ
+found_in ps x = position_from (λ p. same x p.identifier) 0 ps

@@ -1,17 +1,15 @@
 // Names, and the items of a declaration as rows of a table.
 #![tactic(auto)]
 
-ghost use Rattle.std.specs.Prelude.{◌≡◌, ◌+◌};
+ghost use Rattle.std.specs.Prelude.{◌≡◌, ◌+◌, ◌-◌, ◌<◌};
 ghost use Rattle.ast.specs.Tree.{StackParam, Declaration, from_top, same};
-ghost use Rattle.text.specs.Text.{part};
 ghost use Rattle.rows.specs.Rows.{line_in};
 ghost use Rattle.reader.specs.Reading.{item};
 ghost use Rattle.reader.specs.Spells.{SpellsItems};
-ghost use Rattle.names.specs.Items.{ItemsAt, HoldsItem, Inside, line_of, found_in};
+ghost use Rattle.names.specs.Items.{ItemsAt, HoldsItem, line_of, found_in};
 
-use ast::numbers::type_from;
 use ast::{Location, Type};
-use rows::{part_in, place_in, row_in};
+use rows::{Rows, row_in};
 use text::Place;
 
 // An item: where it stands, its type, and where its name stands in the listing.
@@ -22,28 +20,33 @@ pub struct Item {
     pub name: Place,
 }
 
-// The position of a name, from 0 at the top.
-#[derive(Clone, Copy)]
-pub enum Found {
-    At(u32),
-    Missing,
+// The rows of a declaration's items: the first of them, and how many there are.
+#[derive(Clone, Copy, PartialEq, Eq)]
+pub struct ItemRows {
+    pub first: u32,
+    pub count: u32,
 }
 
-// Whether two parts of the listing are the same, byte for byte. The last byte is looked at first: names of one contract often begin alike.
-pub fn same_name(listing: &[u8], a: Place, b: Place) -> bool
-    requires { Inside listing.now a × Inside listing.now b }
-    ensures { result ≡ same (part listing.now a) (part listing.now b) }
+impl ItemRows {
+    // The row of the item at position k: 0 at the top, which is the last row.
+    pub fn row_at(self, k: u32) -> usize
+        requires { k < self.count }
+        ensures { result ≡ self.first + (self.count - 1 - k) }
+    {
+        self.first as usize + (self.count - 1 - k) as usize
+    }
+}
+
+// Whether two names are the same, byte for byte. The last byte is looked at first: names of one contract often begin alike.
+#[tactic(auto, using(crate::proofs::Laws::lengths_differ, crate::proofs::Laws::byte_differs, crate::proofs::Laws::bytes_agree))]
+pub fn same_name(a: &[u8], b: &[u8]) -> bool
+    ensures { result ≡ same a.now b.now }
 {
-    let n = a.len;
-    if n != b.len {
+    if a.len() != b.len() {
         return false;
     }
-    let i = a.at;
-    let j = b.at;
-    let mut k = n;
-    while 0 < k {
-        k -= 1;
-        if listing[i + k] != listing[j + k] {
+    for k in (0..a.len()).rev() {
+        if a[k] != b[k] {
             return false;
         }
     }
@@ -51,31 +54,29 @@ pub fn same_name(listing: &[u8], a: Place, b: Place) -> bool
 }
 
 // The item of an item's line.
+#[tactic(auto, unfolding(rows::specs::Rows::line_in, rows::specs::Rows::line_of, rows::specs::Rows::kept_as))]
 pub fn item_at(table: &[u32], i: usize) -> Item
     requires { HoldsItem table.now i }
     ensures { line_in table.now i ≡ line_of result }
 {
     let r = row_in(table, i);
     Item {
-        loc: place_in(r),
-        ty: type_from(r.c),
-        name: part_in(r),
+        loc: r.location(),
+        ty: Type::from(r.c),
+        name: r.part(),
     }
 }
 
-// The position of the name x among the `count` items whose rows begin at `first`: first declared first, so that the last row is the top.
-pub fn find_item(listing: &[u8], table: &[u32], first: usize, count: u32, x: Place) -> Found
-    requires { ItemsAt listing.now table.now count first × Inside listing.now x }
-    ensures { (d : Declaration) → SpellsItems (line_in table.now) StackParam (item listing.now) count first d (first + count) → result ≡ found_in (from_top d) (part listing.now x) }
+// The position of a name among the items of some rows: 0 at the top, which is the last row.
+pub fn find_item(rows: &Rows<'_>, items: ItemRows, name: &[u8]) -> Option<u32>
+    requires { ItemsAt rows.now.listing.now rows.now.table.now items.count items.first }
+    ensures { (d : Declaration) → SpellsItems (line_in rows.now.table.now) StackParam (item rows.now.listing.now) items.count items.first d (items.first + items.count) → result ≡ found_in (from_top d) name.now }
 {
-    let mut k: u32 = 0;
-    while k < count {
-        let it = item_at(table, first + (count - 1 - k) as usize);
-        let name = it.name;
-        if same_name(listing, x, name) {
-            return Found::At(k);
+    for k in 0..items.count {
+        let it = item_at(rows.table, items.row_at(k));
+        if same_name(name, it.name.of(rows.listing)) {
+            return Some(k);
         }
-        k += 1;
     }
-    Found::Missing
+    None
 }

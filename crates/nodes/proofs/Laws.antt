@@ -2,12 +2,13 @@
 use Prim.Native.Nat.{ℕ, suc, ◌+◌, ◌≤◌, ◌<◌}
 use native.Mathlib.Omega.{arith}
 use mathlib.Core.List.{List}
-use mathlib.Core.Option.{Option, some}
+use mathlib.Core.Option.{some}
 use mathlib.Core.Path.{◌≡◌, refl, sym, ap, ◌∙◌, subst}
 use lib.ListN.{length}
+use Rattle.std.specs.Prelude.{Ok, Err}
+use Rattle.rules.specs.Result.{Checked}
+use Rattle.rules.proofs.Basics.{Err≢Ok, Ok-injective}
 use Rattle.ast.specs.declared.CompileError.{CompileError}
-use Rattle.ast.specs.declared.Checked.{Checked}
-use Rattle.ast.specs.declared.Checked.TheVariants.{Ok, Err}
 use Rattle.ast.specs.Tree.{Expression, Factor, Statement, Block}
 use Rattle.text.specs.declared.Place.{Place}
 use Rattle.listing.specs.declared.StatementLine.{StatementLine}
@@ -18,24 +19,15 @@ use Rattle.listing.specs.Kinds.{part_of, statement_line, expression_line, factor
 use Rattle.rows.specs.Rows.{row_in, kept, kept_as, line_of, line_in}
 use Rattle.rows.specs.declared.Words.{Words}
 use Rattle.rows.proofs.Laws.{kept_in}
-use Rattle.rows.proofs.Forms.{If}
 use Rattle.reader.specs.Spells.{SpellsExpression, SpellsFactor, SpellsStatement, SpellsBlock, SpellsStatements}
 use Rattle.reader.proofs.Inversion.{Begun, ExpressionFrom, expression-from, FactorFrom, factor-from, StatementFrom, statement-from}
 use Rattle.reader.proofs.Agree.{expression-on, factor-on, statement-on, block_on}
-use Rattle.nodes.specs.declared.Answer.TheVariants.{Pass, Fault}
 use Rattle.nodes.specs.Stands.{walked, Stands, ExpressionAt, FactorAt, StatementAt, BlockAt, Holds}
 
 -- the line of a row whose letter is known
 pub line-by : (t : List ℕ) (i : ℕ) (k : ℕ) {r : Words} {x : Line} → r ≡ row_in t i → r.kind ≡ k → x ≡ kept_as kept k r → line_in t i ≡ x
 unfolding line_in
 line-by t i k {r} {x} e q h = sym (kept_in k r x q h ∙ ap line_of e)
-
--- the line of a row that holds one of a kind, from what is known of all lines of that kind
-pub line-of : {X Y : Type 0} {make : X → Line} (pick : Line → Option Y) (t : List ℕ) (i : ℕ) {r : Words} {x : Line} {y : Y} → r ≡ row_in t i → (h : Holds make t i) → If (pick (line_of r)) (λ z. line_of r ≡ x) → pick (make h.held) ≡ some y → line_in t i ≡ x
-unfolding line_in
-line-of pick t i {r = r} {x = x} e h all p =
-    let q : pick (line_of r) ≡ some _ = ap (λ w. pick (line_of w)) e ∙ ap pick h.is ∙ p in
-    sym (ap line_of e) ∙ subst (λ o. If o (λ z. line_of r ≡ x)) q all
 
 -- a tree below one that stands
 pub below : {A B : Type 0} {R : ℕ → A → ℕ → Type 0} (Q : ℕ → B → ℕ → Type 0) {s t : List ℕ} {i : ℕ} (st : Stands R s t i) {k m : ℕ} {b : B} → Q k b m → m ≤ st.next → Stands Q s t k
@@ -111,21 +103,17 @@ pub stands_at : {A B : Type 0} {R : ℕ → A → ℕ → Type 0} (Q : ℕ → B
 stands_at Q st e q h = below Q st (at_row Q e q) h
 
 -- the answer of a walk whose check passed, and of one whose check did not
-pub walked-ok : {c : Checked} {n j : ℕ} → c ≡ Ok → n ≡ j → Pass n ≡ walked c j
-unfolding walked
+pub walked-ok : {c : Checked} {n j : ℕ} → c ≡ Ok tt → n ≡ j → Ok n ≡ walked c j
 walked-ok q e = rw (q, e)
 
-pub walked-err : {c : Checked} {x : CompileError} (j : ℕ) → c ≡ Err x → Fault x ≡ walked c j
-unfolding walked
+pub walked-err : {c : Checked} {x : CompileError} (j : ℕ) → c ≡ Err x → Err x ≡ walked c j
 walked-err j q = rw q
 
 -- what a walk's answer says of the check
-pub walked-pass : (c : Checked) (j : ℕ) {n : ℕ} → walked c j ≡ Pass n → (c ≡ Ok) × (j ≡ n)
-unfolding walked
-walked-pass Ok j {n} h = let e : j ≡ n = cc in (refl, e)
-walked-pass (Err x) j h = let z : ◌≡◌ {A = ℕ} 0 1 = cc in absurd (omega arith)
+pub walked-pass : (c : Checked) (j : ℕ) {n : ℕ} → walked c j ≡ Ok n → (c ≡ Ok tt) × (j ≡ n)
+walked-pass (Ok _) j h = (refl, Ok-injective h)
+walked-pass (Err x) j h = absurd (Err≢Ok h)
 
-pub walked-fault : (c : Checked) (j : ℕ) {x : CompileError} → walked c j ≡ Fault x → c ≡ Err x
-unfolding walked
-walked-fault Ok j h = let z : ◌≡◌ {A = ℕ} 0 1 = cc in absurd (omega arith)
-walked-fault (Err y) j {x} h = let e : y ≡ x = cc in ap Err e
+pub walked-fault : (c : Checked) (j : ℕ) {x : CompileError} → walked c j ≡ Err x → c ≡ Err x
+walked-fault (Ok _) j h = absurd (Err≢Ok (sym h))
+walked-fault (Err y) j h = cc

@@ -1,16 +1,13 @@
 -- Trees that stand in a table of rows, and what a walk over one answers.
-use Rattle.std.specs.Prelude.{ℕ, ◌+◌, ◌≤◌, ◌<◌, List, ◌≡◌, length}
+use Rattle.std.specs.Prelude.{ℕ, ◌+◌, ◌≤◌, ◌<◌, List, ◌≡◌, length, Ok}
 use Rattle.std.proofs.Math.Option.{some}
-use Rattle.ast.specs.declared.Checked.{Checked}
-use Rattle.ast.specs.declared.Checked.TheVariants.{Ok, Err}
+use Rattle.rules.specs.Result.{Result, Checked, ◌>>◌}
 use Rattle.text.specs.declared.Place.{Place}
 use Rattle.listing.specs.declared.Line.{Line}
 use Rattle.listing.specs.Kinds.{part_of}
 use Rattle.rows.specs.Rows.{line_in, HasRow, HasRows}
 use Rattle.reader.specs.Ceilings.{max_bytes, max_lines}
 use Rattle.reader.specs.Spells.{SpellsExpression, SpellsFactor, SpellsFactors, SpellsStatement, SpellsBlock, SpellsStatements}
-use Rattle.nodes.specs.declared.Answer.{Answer}
-use Rattle.nodes.specs.declared.Answer.TheVariants.{Pass, Fault}
 
 -- n rows that can be read: there is room for them, and the parts they name lie in the listing
 pub record Rows (s t : List ℕ) (n : ℕ) : Type 0 where
@@ -55,6 +52,5 @@ pub record Holds {X : Type 0} (make : X → Line) (t : List ℕ) (i : ℕ) : Typ
   pub room : HasRow t i
 
 -- a check that ends before row j, as a walk answers it: the next row, or the fault
-unfoldable pub walked : Checked → ℕ → Answer
-walked Ok j = Pass j
-walked (Err x) j = Fault x
+abbrev pub walked : Checked → ℕ → Result ℕ
+walked c j = c >> Ok j

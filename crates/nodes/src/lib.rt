@@ -1,44 +1,32 @@
 // The nodes of a contract as rows of a table: what a walk over them needs.
-#![tactic(auto)]
+#![tactic(auto, unfolding(rows::specs::Rows::line_in, rows::specs::Rows::line_of, rows::specs::Rows::kept_as))]
 
 ghost use Rattle.std.specs.Prelude.{◌≡◌, List, ℕ, ◌≤◌};
 ghost use Rattle.listing.specs.declared.Line.{Line};
-ghost use Rattle.ast.specs.Tree.{Expression, Factor, Statement, Block, fault, loc};
+ghost use Rattle.ast.specs.Tree.{Expression, Factor, Statement, Block, loc};
 ghost use Rattle.rows.specs.Rows.{line_of, line_in, HasRow};
 ghost use Rattle.reader.specs.Parts.{factor_kind, kind_of, count_of};
 ghost use Rattle.reader.specs.Spells.{SpellsExpression, SpellsFactor, SpellsStatement, SpellsStatements};
-ghost use Rattle.nodes.specs.declared.Answer.{Answer};
 ghost use Rattle.nodes.specs.declared.Head.{Head};
 ghost use Rattle.nodes.specs.Stands.{Holds, ExpressionAt, FactorAt, StatementAt, StatementsAt};
 ghost use Rattle.nodes.specs.Somewhere.{Somewhere};
 ghost use Rattle.nodes.specs.Nodes.{operands_of, Spans, Spanned};
 
-use ast::{CompileError, ErrorKind, Location, Target, numbers};
+use ast::{
+    BinaryCompareOp, BinaryLogicalOp, BinaryMathOp, Location, LocktimeOp, Target, UnaryCryptoOp,
+    UnaryMathOp,
+};
 use listing::{ExpressionLine, FactorLine, StatementLine, letters};
-use rows::{Words, part_in, place_in, row_in, signed_in};
+use rows::{Words, row_in};
 
 // The row of the first declaration: right after the T line.
 pub const FIRST_DECLARATION: u32 = 1;
 
-// What a walk over a node answers: the row after it, or the first fault.
-#[derive(Clone, Copy)]
-pub enum Answer {
-    Pass(usize),
-    Fault(CompileError),
-}
-
 // What the T line holds.
-#[derive(Clone, Copy)]
+#[derive(Clone, Copy, PartialEq, Eq)]
 pub struct Head {
     pub target: Target,
     pub declarations: u32,
-}
-
-// A fault: its kind and its place.
-pub fn refuse(kind: ErrorKind, loc: Location) -> Answer
-    ensures { result ≡ Answer.Fault (fault kind loc) }
-{
-    Answer::Fault(CompileError { loc, kind })
 }
 
 // The line of an expression.
@@ -47,18 +35,17 @@ pub fn expression_at(table: &[u32], i: usize) -> ExpressionLine
     ensures { line_in table.now i ≡ Line.Expression result }
 {
     let r = row_in(table, i);
-    let loc = place_in(r);
-    let kind = r.kind;
-    match kind {
-        letters::VARIABLE => ExpressionLine::Variable(loc, part_in(r)),
-        letters::NUMBER => ExpressionLine::NumberLiteral(loc, signed_in(r)),
+    let loc = r.location();
+    match r.kind {
+        letters::VARIABLE => ExpressionLine::Variable(loc, r.part()),
+        letters::NUMBER => ExpressionLine::NumberLiteral(loc, r.signed()),
         letters::BOOLEAN => ExpressionLine::BooleanLiteral(loc, r.a == 1),
-        letters::LITERAL => ExpressionLine::StringLiteral(loc, part_in(r), r.c == 1),
-        letters::LOGIC => ExpressionLine::LogicalExpression(loc, numbers::logical_from(r.a)),
-        letters::COMPARE => ExpressionLine::CompareExpression(loc, numbers::compare_from(r.a)),
-        letters::ARITHMETIC => ExpressionLine::BinaryMathExpression(loc, numbers::math_from(r.a)),
-        letters::UNARY => ExpressionLine::UnaryMathExpression(loc, numbers::unary_from(r.a)),
-        letters::HASH => ExpressionLine::UnaryCryptoExpression(loc, numbers::crypto_from(r.a)),
+        letters::LITERAL => ExpressionLine::StringLiteral(loc, r.part(), r.c == 1),
+        letters::LOGIC => ExpressionLine::LogicalExpression(loc, BinaryLogicalOp::from(r.a)),
+        letters::COMPARE => ExpressionLine::CompareExpression(loc, BinaryCompareOp::from(r.a)),
+        letters::ARITHMETIC => ExpressionLine::BinaryMathExpression(loc, BinaryMathOp::from(r.a)),
+        letters::UNARY => ExpressionLine::UnaryMathExpression(loc, UnaryMathOp::from(r.a)),
+        letters::HASH => ExpressionLine::UnaryCryptoExpression(loc, UnaryCryptoOp::from(r.a)),
         letters::SIGNATURES => ExpressionLine::CheckSigExpression(loc),
         _ => ExpressionLine::ByteExpression(loc),
     }
@@ -70,9 +57,8 @@ pub fn factor_at(table: &[u32], i: usize) -> FactorLine
     ensures { line_in table.now i ≡ Line.Factor result }
 {
     let r = row_in(table, i);
-    let loc = place_in(r);
-    let kind = r.kind;
-    match kind {
+    let loc = r.location();
+    match r.kind {
         letters::MULTI => FactorLine::MultiSigFactor(loc, r.a, r.b),
         _ => FactorLine::SingleSigFactor(loc),
     }
@@ -84,15 +70,10 @@ pub fn statement_at(table: &[u32], i: usize) -> StatementLine
     ensures { line_in table.now i ≡ Line.Statement result }
 {
     let r = row_in(table, i);
-    let loc = place_in(r);
-    let kind = r.kind;
-    match kind {
+    let loc = r.location();
+    match r.kind {
         letters::IF => StatementLine::IfStatement(loc, r.a == 1),
-        letters::WAIT => StatementLine::LocktimeStatement(
-            loc,
-            numbers::locktime_from(r.a),
-            signed_in(r),
-        ),
+        letters::WAIT => StatementLine::LocktimeStatement(loc, LocktimeOp::from(r.a), r.signed()),
         letters::VERIFY => StatementLine::VerifyStatement(loc),
         _ => StatementLine::ExpressionStatement(loc),
     }
@@ -104,8 +85,7 @@ pub fn block_at(table: &[u32], i: usize) -> u32
     ensures { line_in table.now i ≡ Line.Block result }
 {
     let r = row_in(table, i);
-    let kind = r.kind;
-    match kind {
+    match r.kind {
         letters::BLOCK => r.a,
         _ => 0,
     }
@@ -127,7 +107,7 @@ pub fn contract_at(table: &[u32], i: usize) -> Head
 {
     let r = row_in(table, i);
     Head {
-        target: numbers::target_from(r.a),
+        target: Target::from(r.a),
         declarations: r.b,
     }
 }
@@ -137,7 +117,7 @@ pub fn loc_at(table: &[u32], i: usize) -> Location
     requires { HasRow table.now i }
     ensures { (s : List ℕ) (e : Expression) (j : ℕ) → SpellsExpression (line_in table.now) s i e j → result ≡ loc e }
 {
-    place_in(row_in(table, i))
+    row_in(table, i).location()
 }
 
 // How many operands the line of an expression has; a signature check has its factor.
@@ -145,17 +125,17 @@ pub fn operand_count(line: ExpressionLine) -> u32
     ensures { result ≡ count_of (Line.Expression line) }
 {
     match line {
-        ExpressionLine::Variable(_, _) => 0,
-        ExpressionLine::NumberLiteral(_, _) => 0,
-        ExpressionLine::BooleanLiteral(_, _) => 0,
-        ExpressionLine::StringLiteral(_, _, _) => 0,
-        ExpressionLine::LogicalExpression(_, _) => 2,
-        ExpressionLine::CompareExpression(_, _) => 2,
-        ExpressionLine::BinaryMathExpression(_, _) => 2,
-        ExpressionLine::UnaryMathExpression(_, _) => 1,
-        ExpressionLine::UnaryCryptoExpression(_, _) => 1,
-        ExpressionLine::ByteExpression(_) => 1,
-        ExpressionLine::CheckSigExpression(_) => 1,
+        ExpressionLine::Variable(..)
+        | ExpressionLine::NumberLiteral(..)
+        | ExpressionLine::BooleanLiteral(..)
+        | ExpressionLine::StringLiteral(..) => 0,
+        ExpressionLine::LogicalExpression(..)
+        | ExpressionLine::CompareExpression(..)
+        | ExpressionLine::BinaryMathExpression(..) => 2,
+        ExpressionLine::UnaryMathExpression(..)
+        | ExpressionLine::UnaryCryptoExpression(..)
+        | ExpressionLine::ByteExpression(_)
+        | ExpressionLine::CheckSigExpression(_) => 1,
     }
 }
 
@@ -164,8 +144,7 @@ fn early_parts(r: Words) -> u32
     requires { r.kind ≤ 73 }
     ensures { result ≡ count_of (line_of r) }
 {
-    let kind = r.kind;
-    match kind {
+    match r.kind {
         letters::BLOCK => r.a,
         letters::DECLARATION => r.a,
         letters::RETURN => 1,
@@ -178,8 +157,7 @@ fn early_parts(r: Words) -> u32
 fn operands_of(r: Words) -> u32
     ensures { result ≡ operands_of (line_of r) }
 {
-    let kind = r.kind;
-    match kind {
+    match r.kind {
         letters::LOGIC => 2,
         letters::COMPARE => 2,
         letters::ARITHMETIC => 2,
@@ -198,11 +176,10 @@ fn operands_of(r: Words) -> u32
 fn row_parts(r: Words) -> u32
     ensures { result ≡ count_of (line_of r) }
 {
-    let kind = r.kind;
-    if kind <= letters::IF {
+    if r.kind <= letters::IF {
         return early_parts(r);
     }
-    match kind {
+    match r.kind {
         letters::CONTRACT => r.b,
         letters::VERIFY => 1,
         _ => operands_of(r),
@@ -218,6 +195,7 @@ pub fn parts_below(table: &[u32], i: usize) -> u32
 }
 
 // The same of a row that holds an expression or a factor, for a walk that meets no others: fewer letters to tell apart.
+#[tactic(auto, unfolding(rows::specs::Rows::line_in), using(crate::proofs::Letters::operands_all))]
 pub fn operands_below(table: &[u32], i: usize) -> u32
     requires { HasRow table.now i × (kind_of (line_in table.now i) ≤ factor_kind) }
     ensures { result ≡ count_of (line_in table.now i) }

@@ -5,17 +5,15 @@ use native.Mathlib.Omega.{arith}
 use mathlib.Core.List.{List}
 use mathlib.Core.Path.{◌≡◌, refl, sym, ap, ◌∙◌, subst}
 use lib.ListN.{length}
+use Rattle.std.specs.Prelude.{Ok, Err}
 use Rattle.ast.specs.declared.Target.{Target}
+use Rattle.rules.specs.Result.{Result, Checked}
 use Rattle.ast.specs.declared.CompileError.{CompileError}
-use Rattle.ast.specs.declared.Checked.{Checked}
-use Rattle.ast.specs.declared.Checked.TheVariants.{Ok, Err}
 use Rattle.ast.specs.Tree.{StackParam, Declaration, from_top, Expression, Factors}
 use Rattle.rows.specs.Rows.{line_in}
 use Rattle.reader.specs.Reading.{item}
 use Rattle.reader.specs.Spells.{SpellsExpression, SpellsFactor, SpellsFactors, SpellsItems}
 use Rattle.reader.proofs.Agree.{expression-on, factor-on, factors-on}
-use Rattle.nodes.specs.declared.Answer.{Answer}
-use Rattle.nodes.specs.declared.Answer.TheVariants.{Pass, Fault}
 use Rattle.nodes.specs.Stands.{walked}
 use Rattle.nodes.proofs.Laws.{below, walked-pass, walked-fault}
 use Rattle.names.specs.Items.{ItemsAt}
@@ -57,18 +55,18 @@ module _ {s t : List ℕ} {p : Context} where
 
 module _ (s t : List ℕ) (p : Context) where
   -- some declaration is named
-  pub declared : ItemsAt s t p.count p.first → (d : Declaration) × Declares s t p d
-  declared u = (u.tree, subst (λ j. SpellsItems (line_in t) StackParam (item s) p.count p.first u.tree j) (items-end u.spells) u.spells)
+  pub declared : ItemsAt s t p.items.count p.items.first → (d : Declaration) × Declares s t p d
+  declared u = (u.tree, subst (λ j. SpellsItems (line_in t) StackParam (item s) p.items.count p.items.first u.tree j) (items-end u.spells) u.spells)
 
   -- a pass on a tree ends where the tree does
-  passes : {A : Type 0} (R : ℕ → A → ℕ → Type 0) (rule : A → Target → List StackParam → Checked) (i n : ℕ) (r : Answer) → r ≡ Pass n → Answers R rule s t p i r → (e : A) (j : ℕ) (d : Declaration) → R i e j → Declares s t p d → (rule e p.target (from_top d) ≡ Ok) × (j ≡ n)
+  passes : {A : Type 0} (R : ℕ → A → ℕ → Type 0) (rule : A → Target → List StackParam → Checked) (i n : ℕ) (r : Result ℕ) → r ≡ Ok n → Answers R rule s t p i r → (e : A) (j : ℕ) (d : Declaration) → R i e j → Declares s t p d → (rule e p.target (from_top d) ≡ Ok tt) × (j ≡ n)
   passes R rule i n r w h e j d u q = walked-pass (rule e p.target (from_top d)) j (sym (h e j d u q) ∙ w)
 
-  faults : {A : Type 0} (R : ℕ → A → ℕ → Type 0) (rule : A → Target → List StackParam → Checked) (i : ℕ) (x : CompileError) (r : Answer) → r ≡ Fault x → Answers R rule s t p i r → (e : A) (j : ℕ) (d : Declaration) → R i e j → Declares s t p d → rule e p.target (from_top d) ≡ Err x
+  faults : {A : Type 0} (R : ℕ → A → ℕ → Type 0) (rule : A → Target → List StackParam → Checked) (i : ℕ) (x : CompileError) (r : Result ℕ) → r ≡ Err x → Answers R rule s t p i r → (e : A) (j : ℕ) (d : Declaration) → R i e j → Declares s t p d → rule e p.target (from_top d) ≡ Err x
   faults R rule i x r w h e j d u q = walked-fault (rule e p.target (from_top d)) j (sym (h e j d u q) ∙ w)
 
   -- the right operand stands where a pass on the left one ends
-  module _ (i n : ℕ) (one : Rule) (l : Answer) (w : l ≡ Pass n) (h : Checks one s t p i l) where
+  module _ (i n : ℕ) (one : Rule) (l : Result ℕ) (w : l ≡ Ok n) (h : Checks one s t p i l) where
     pub right-under : TwoUnder s t p i → ExpressionUnder s t p n × (i < n)
     right-under u =
         let v = u.node.spells in
@@ -76,31 +74,30 @@ module _ (s t : List ℕ) (p : Context) where
         let e : v.mid ≡ n = (passes (SpellsExpression (line_in t) s) one i n l w h _ _ _ v.first d.1).1 in
         (subst (λ k. ExpressionUnder s t p k) e (under (SpellsExpression (line_in t) s) u v.second (omega arith)), omega (arith, expression-on (line_in t) s v.first))
 
-    pub two-pass : (other : Rule) (r : Answer) → Checks other s t p n r → ChecksTwo one other s t p i r
+    pub two-pass : (other : Rule) (r : Result ℕ) → Checks other s t p n r → ChecksTwo one other s t p i r
     two-pass other r k e j d v q =
         let z = passes (SpellsExpression (line_in t) s) one i n l w h _ _ _ v.first q in
         rw z.0 (k _ _ _ (subst (λ m. SpellsExpression (line_in t) s m e.right j) z.1 v.second) q)
 
-  pub two-fault : (i : ℕ) (x : CompileError) (one other : Rule) (r : Answer) → r ≡ Fault x → Checks one s t p i r → ChecksTwo one other s t p i r
-  unfolding walked
+  pub two-fault : (i : ℕ) (x : CompileError) (one other : Rule) (r : Result ℕ) → r ≡ Err x → Checks one s t p i r → ChecksTwo one other s t p i r
   two-fault i x one other r w h e j d v q = rw (faults (SpellsExpression (line_in t) s) one i x r w h _ _ _ v.first q, w)
 
   -- factors in turn
-  abbrev Inner : ℕ → Answer → Type 0
+  abbrev Inner : ℕ → Result ℕ → Type 0
   Inner i r = ChecksFactor inner s t p i r
 
-  abbrev Inners : ℕ → ℕ → Answer → Type 0
+  abbrev Inners : ℕ → ℕ → Result ℕ → Type 0
   Inners n i r = ChecksFactors n (λ fs g ps. inners g ps fs) s t p i r
 
-  pub inners-end : (i : ℕ) → Inners 0 i (Pass i)
-  unfolding walked inners
+  pub inners-end : (i : ℕ) → Inners 0 i (Ok i)
+  unfolding inners
   inners-end i fs j d SpellsFactors.nil q = refl
 
-  pub inners-fault : (n i : ℕ) (x : CompileError) (r : Answer) → r ≡ Fault x → Inner i r → Inners (suc n) i r
-  unfolding walked inners
+  pub inners-fault : (n i : ℕ) (x : CompileError) (r : Result ℕ) → r ≡ Err x → Inner i r → Inners (suc n) i r
+  unfolding inners
   inners-fault n i x r w h fs j d (SpellsFactors.cons {f = f} u v) q = rw (faults (SpellsFactor (line_in t) s) (λ f g ps. inner g ps f) i x r w h f _ d u q, w)
 
-  module _ (n i m : ℕ) (l : Answer) (w : l ≡ Pass m) (h : Inner i l) where
+  module _ (n i m : ℕ) (l : Result ℕ) (w : l ≡ Ok m) (h : Inner i l) where
     pub rest_under : FactorsUnder (suc n) s t p i → FactorsUnder n s t p m
     rest_under u = go u.node.spells (omega arith)
       where
@@ -110,7 +107,7 @@ module _ (s t : List ℕ) (p : Context) where
             let e = (passes (SpellsFactor (line_in t) s) (λ f g ps. inner g ps f) i m l w h f _ d.0 q d.1).1 in
             subst (λ b. FactorsUnder n s t p b) e (under (SpellsFactors (line_in t) s n) u r k)
 
-    pub inners-pass : (r : Answer) → Inners n m r → Inners (suc n) i r
+    pub inners-pass : (r : Result ℕ) → Inners n m r → Inners (suc n) i r
     unfolding inners
     inners-pass r k fs j d (SpellsFactors.cons {f = f} {fs = rest} u v) q =
         let z = passes (SpellsFactor (line_in t) s) (λ f g ps. inner g ps f) i m l w h f _ d u q in
@@ -123,14 +120,14 @@ factors-size s t SpellsFactors.nil = refl
 factors-size s t (SpellsFactors.cons u v) = ap suc (factors-size s t v)
 
 -- what is answered by one rule is answered by another that agrees with it on the node
-pub turn : {e E : Expression} (F G : Expression → Checked) (j : ℕ) {r : Answer} → e ≡ E → F E ≡ G E → r ≡ walked (F e) j → r ≡ walked (G e) j
+pub turn : {e E : Expression} (F G : Expression → Checked) (j : ℕ) {r : Result ℕ} → e ≡ E → F E ≡ G E → r ≡ walked (F e) j → r ≡ walked (G e) j
 turn F G j q h k = k ∙ ap (λ c. walked c j) (ap F q ∙ h ∙ ap G (sym q))
 
 -- a node with no operand
-pub leaf : {e E : Expression} (G : Expression → Checked) {i j : ℕ} {r : Answer} → e ≡ E → j ≡ suc i → r ≡ walked (G E) (i + 1) → r ≡ walked (G e) j
+pub leaf : {e E : Expression} (G : Expression → Checked) {i j : ℕ} {r : Result ℕ} → e ≡ E → j ≡ suc i → r ≡ walked (G E) (i + 1) → r ≡ walked (G e) j
 leaf {e} {E} G {i} {j} {r} q n h = rw (q, n) (rw add-one at h)
 
-module _ (s t : List ℕ) (p : Context) (i j : ℕ) {A : Type 0} {e : A} (d : Declaration) (r : Answer) (q : Declares s t p d) (G : A → Checked) where
+module _ (s t : List ℕ) (p : Context) (i j : ℕ) {A : Type 0} {e : A} (d : Declaration) (r : Result ℕ) (q : Declares s t p d) (G : A → Checked) where
   -- a node answered by what stands below it
   pub by-operand : {C : Type 0} {U : C → A} (R : ℕ → C → ℕ → Type 0) (rule : C → Target → List StackParam → Checked) → (a : C) × R (suc i) a j × (e ≡ U a) → Answers R rule s t p (i + 1) r → ((a : C) → rule a p.target (from_top d) ≡ G (U a)) → r ≡ walked (G e) j
   by-operand R rule (a, u, w) h k = rw (w, ← k a) ((rw add-one at h) a j d u q)

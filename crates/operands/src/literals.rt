@@ -1,106 +1,70 @@
 // What a literal's bytes are, over its digits in the listing. Each digit is read at most twice.
-ghost use Rattle.std.specs.Prelude.{◌≡◌, ◌+◌, ◌≤◌, length, take, drop};
+ghost use Rattle.std.specs.Prelude.{◌≡◌, ◌≤◌};
 ghost use Rattle.ast.specs.declared.Target.TheVariants.{Legacy};
-ghost use Rattle.text.specs.Text.{unhex, bytes_of};
+ghost use Rattle.text.specs.Text.{unhex};
 ghost use Rattle.rules.specs.Keys.{is_hex, digit, shaped, is_key, is_ascii};
-ghost use Rattle.names.specs.Items.{Inside};
 
 use ast::Target;
-use limits::literals::{are_digits, byte_of};
-use text::Place;
-
-// Whether the bytes that `len` digits of the listing spell, from `at` on, are all ASCII.
-fn are_ascii(listing: &[u8], at: usize, len: usize) -> bool
-    requires { at + len ≤ length listing.now }
-    ensures { result ≡ is_ascii (unhex (take len (drop at listing.now))) }
-{
-    let mut i = at;
-    let mut left = len;
-    while 1 < left {
-        if 127 < byte_of(listing[i], listing[i + 1]) {
-            return false;
-        }
-        i += 2;
-        left -= 2;
-    }
-    true
-}
+use limits::literals::{all_pairs, are_digits, byte_of};
 
 // Whether a literal has only ASCII.
-pub fn is_ascii_literal(listing: &[u8], x: Place) -> bool
-    requires { Inside listing.now x }
-    ensures { result ≡ is_ascii (bytes_of listing.now x) }
+pub fn is_ascii_literal(digits: &[u8]) -> bool
+    ensures { result ≡ is_ascii (unhex digits.now) }
 {
-    are_ascii(listing, x.at, x.len)
+    all_pairs(digits, |a, b| byte_of(a, b) <= 127)
 }
 
 // What a hex digit of either case stands for.
+#[tactic(auto, unfolding(rules::specs::Keys::digit))]
 fn digit_value(b: u32) -> u32
     ensures value { result ≡ digit b }
     ensures upper_bound { result ≤ b }
 {
-    if b <= 57 {
-        if b < 48 { 0 } else { b - 48 }
-    } else if b <= 70 {
-        b - 55
-    } else if b < 87 {
-        0
-    } else {
-        b - 87
-    }
+    let zero = match b {
+        ..=57 => 48,
+        58..=70 => 55,
+        _ => 87,
+    };
+    b.saturating_sub(zero)
 }
 
 // Whether a literal spells 33 bytes, the first of them 2 or 3.
-fn is_compressed(listing: &[u8], x: Place) -> bool
-    requires { Inside listing.now x }
-    ensures { result ≡ shaped Legacy (bytes_of listing.now x) }
+#[tactic(auto, unfolding(rules::specs::Keys::shaped), using(crate::proofs::Bytes::first_two, limits::proofs::Digits::unhex_length))]
+fn is_compressed(digits: &[u8]) -> bool
+    ensures { result ≡ shaped Legacy (unhex digits.now) }
 {
-    if x.len / 2 != 66 {
+    if digits.len() / 2 != 66 {
         return false;
     }
-    let at = x.at;
-    let high = digit_value(byte_of(listing[at], listing[at + 1]));
-    let low = digit_value(byte_of(listing[at + 2], listing[at + 3]));
+    let high = digit_value(byte_of(digits[0], digits[1]));
+    let low = digit_value(byte_of(digits[2], digits[3]));
     let first = high * 16 + low;
-    if first == 2 {
-        return true;
-    }
-    first == 3
+    first == 2 || first == 3
 }
 
 // Whether a literal has the shape of the target's keys: 33 bytes, the first of them 2 or 3, or 32 bytes.
-fn is_shaped(listing: &[u8], target: Target, x: Place) -> bool
-    requires { Inside listing.now x }
-    ensures { result ≡ shaped target (bytes_of listing.now x) }
+#[tactic(auto, unfolding(rules::specs::Keys::shaped), using(limits::proofs::Digits::unhex_length))]
+fn is_shaped(digits: &[u8], target: Target) -> bool
+    ensures { result ≡ shaped target (unhex digits.now) }
 {
     match target {
-        Target::Legacy => is_compressed(listing, x),
-        Target::Segwit => is_compressed(listing, x),
-        Target::Taproot => x.len / 2 == 64,
+        Target::Legacy | Target::Segwit => is_compressed(digits),
+        Target::Taproot => digits.len() / 2 == 64,
     }
 }
 
 // Whether a literal is an even count of hex digits.
-fn is_hex(listing: &[u8], x: Place) -> bool
-    requires { Inside listing.now x }
-    ensures { result ≡ is_hex (bytes_of listing.now x) }
+#[tactic(auto, unfolding(rules::specs::Keys::is_hex), using(limits::proofs::Digits::unhex_length))]
+fn is_hex(digits: &[u8]) -> bool
+    ensures { result ≡ is_hex (unhex digits.now) }
 {
-    if x.len / 2 % 2 == 1 {
-        return false;
-    }
-    are_digits(listing, x.at, x.len)
+    digits.len() / 2 % 2 == 0 && are_digits(digits)
 }
 
 // Whether a literal with a mark is a key of the target.
-pub fn is_key(listing: &[u8], target: Target, x: Place, mark: bool) -> bool
-    requires { Inside listing.now x }
-    ensures { result ≡ is_key target (bytes_of listing.now x) mark }
+#[tactic(auto, unfolding(rules::specs::Keys::is_key))]
+pub fn is_key(digits: &[u8], target: Target, mark: bool) -> bool
+    ensures { result ≡ is_key target (unhex digits.now) mark }
 {
-    if !mark {
-        return false;
-    }
-    if is_shaped(listing, target, x) {
-        return is_hex(listing, x);
-    }
-    false
+    mark && is_shaped(digits, target) && is_hex(digits)
 }

@@ -3,124 +3,110 @@ ghost use Rattle.rules.specs.Types.{signature, key, sig_key, inner, inners, fact
 ghost use Rattle.operands.specs.Typed.{ExpressionUnder, TwoUnder, FactorUnder, FactorsUnder, Answers, Checks, SpellsTwo, ChecksFactor, ChecksFactors, counted};
 
 use crate::literals::is_key;
-use crate::{Context, Leaf, Wanted, check_variable_type, leaf_at};
-use ast::{ErrorKind, Location, Type};
+use crate::{Context, Leaf, check_variable_type, leaf_at};
+use ast::{CompileError, ErrorKind, Location, Type};
 use listing::FactorLine;
-use nodes::{Answer, factor_at, refuse, skip_factor};
+use nodes::{factor_at, skip_factor};
+use rows::Rows;
 
 // The signature at row i: not a variable 16, not of type Signature 17.
-fn check_signature(listing: &[u8], table: &[u32], context: Context, i: usize) -> Answer
-    requires { ExpressionUnder listing.now table.now context i }
-    ensures { Checks (λ e g ps. signature ps e) listing.now table.now context i result }
+fn check_signature(rows: &Rows<'_>, context: Context, i: usize) -> Result<usize, CompileError>
+    requires { ExpressionUnder rows.now.listing.now rows.now.table.now context i }
+    ensures { Checks (λ e g ps. signature ps e) rows.now.listing.now rows.now.table.now context i result }
 {
-    let leaf = leaf_at(listing, table, i);
-    match leaf {
+    match leaf_at(rows, i) {
         Leaf::Named(l, x) => {
-            let wanted = Wanted::Is(Type::Signature);
-            check_variable_type(listing, table, context, i + 1, l, x, wanted)
+            check_variable_type(rows, context, i + 1, l, x, |ty| ty == Type::Signature)
         }
-        Leaf::Bytes(l, _, _) => refuse(ErrorKind::TypeMismatch, l),
-        Leaf::Other(l) => refuse(ErrorKind::TypeMismatch, l),
+        Leaf::Bytes(l, _, _) | Leaf::Other(l) => Err(CompileError::new(ErrorKind::TypeMismatch, l)),
     }
 }
 
 // The key at row i: not a literal 16, no marked key of the target 22.
-fn check_key(listing: &[u8], table: &[u32], context: Context, i: usize) -> Answer
-    requires { ExpressionUnder listing.now table.now context i }
-    ensures { Checks (λ e g ps. key g e) listing.now table.now context i result }
+fn check_key(rows: &Rows<'_>, context: Context, i: usize) -> Result<usize, CompileError>
+    requires { ExpressionUnder rows.now.listing.now rows.now.table.now context i }
+    ensures { Checks (λ e g ps. key g e) rows.now.listing.now rows.now.table.now context i result }
 {
-    let leaf = leaf_at(listing, table, i);
-    match leaf {
-        Leaf::Named(l, _) => refuse(ErrorKind::TypeMismatch, l),
-        Leaf::Other(l) => refuse(ErrorKind::TypeMismatch, l),
+    match leaf_at(rows, i) {
+        Leaf::Named(l, _) | Leaf::Other(l) => Err(CompileError::new(ErrorKind::TypeMismatch, l)),
         Leaf::Bytes(l, x, mark) => {
-            let target = context.target;
-            if is_key(listing, target, x, mark) {
-                return Answer::Pass(i + 1);
+            if is_key(x.of(rows.listing), context.target, mark) {
+                Ok(i + 1)
+            } else {
+                Err(CompileError::new(ErrorKind::MalformedPubkey, l))
             }
-            refuse(ErrorKind::MalformedPubkey, l)
         }
     }
 }
 
 // The signature at row i, then the key after it.
-pub fn check_type_sig_pubkey(listing: &[u8], table: &[u32], context: Context, i: usize) -> Answer
-    requires { TwoUnder listing.now table.now context i }
-    ensures { Answers (SpellsTwo listing.now table.now) (λ e g ps. sig_key g ps e.left e.right) listing.now table.now context i result }
+pub fn check_type_sig_pubkey(
+    rows: &Rows<'_>,
+    context: Context,
+    i: usize,
+) -> Result<usize, CompileError>
+    requires { TwoUnder rows.now.listing.now rows.now.table.now context i }
+    ensures { Answers (SpellsTwo rows.now.listing.now rows.now.table.now) (λ e g ps. sig_key g ps e.left e.right) rows.now.listing.now rows.now.table.now context i result }
 {
-    let signed = check_signature(listing, table, context, i);
-    let Answer::Pass(n) = signed else {
-        return signed;
-    };
-    check_key(listing, table, context, n)
+    let n = check_signature(rows, context, i)?;
+    check_key(rows, context, n)
 }
 
 // A factor of a multi-signature: an inner multi-signature is skipped.
-fn check_inner(listing: &[u8], table: &[u32], context: Context, i: usize) -> Answer
-    requires { FactorUnder listing.now table.now context i }
-    ensures { ChecksFactor inner listing.now table.now context i result }
+fn check_inner(rows: &Rows<'_>, context: Context, i: usize) -> Result<usize, CompileError>
+    requires { FactorUnder rows.now.listing.now rows.now.table.now context i }
+    ensures { ChecksFactor inner rows.now.listing.now rows.now.table.now context i result }
 {
-    let line = factor_at(table, i);
-    match line {
-        FactorLine::SingleSigFactor(_) => check_type_sig_pubkey(listing, table, context, i + 1),
-        FactorLine::MultiSigFactor(_, _, _) => Answer::Pass(skip_factor(table, i)),
+    match factor_at(rows.table, i) {
+        FactorLine::SingleSigFactor(_) => check_type_sig_pubkey(rows, context, i + 1),
+        FactorLine::MultiSigFactor(..) => Ok(skip_factor(rows.table, i)),
     }
 }
 
 // The `count` factors of a multi-signature in turn, from row i on.
-fn check_inners(listing: &[u8], table: &[u32], context: Context, i: usize, count: u32) -> Answer
-    requires { FactorsUnder count listing.now table.now context i }
-    ensures { ChecksFactors count (λ fs g ps. inners g ps fs) listing.now table.now context i result }
+fn check_inners(
+    rows: &Rows<'_>,
+    context: Context,
+    i: usize,
+    count: u32,
+) -> Result<usize, CompileError>
+    requires { FactorsUnder count rows.now.listing.now rows.now.table.now context i }
+    ensures { ChecksFactors count (λ fs g ps. inners g ps fs) rows.now.listing.now rows.now.table.now context i result }
 {
     let mut next = i;
-    let mut left = count;
-    while 0 < left {
-        let part = check_inner(listing, table, context, next);
-        match part {
-            Answer::Pass(n) => {
-                next = n;
-            }
-            Answer::Fault(x) => {
-                return Answer::Fault(x);
-            }
-        }
-        left -= 1;
+    for _ in 0..count {
+        next = check_inner(rows, context, next)?;
     }
-    Answer::Pass(next)
+    Ok(next)
 }
 
 // A multi-signature at `loc` with the threshold m: m = 0 or m above the factor count is 17, then its factors, from row i on.
 fn check_multi(
-    listing: &[u8],
-    table: &[u32],
+    rows: &Rows<'_>,
     context: Context,
     i: usize,
     loc: Location,
     m: u32,
     count: u32,
-) -> Answer
-    requires { FactorsUnder count listing.now table.now context i }
-    ensures { ChecksFactors count (counted loc m) listing.now table.now context i result }
+) -> Result<usize, CompileError>
+    requires { FactorsUnder count rows.now.listing.now rows.now.table.now context i }
+    ensures { ChecksFactors count (counted loc m) rows.now.listing.now rows.now.table.now context i result }
 {
-    if m == 0 {
-        return refuse(ErrorKind::InvalidOperation, loc);
+    if m == 0 || count < m {
+        return Err(CompileError::new(ErrorKind::InvalidOperation, loc));
     }
-    if count < m {
-        return refuse(ErrorKind::InvalidOperation, loc);
-    }
-    check_inners(listing, table, context, i, count)
+    check_inners(rows, context, i, count)
 }
 
 // A signature check's factor.
-pub fn check_factor(listing: &[u8], table: &[u32], context: Context, i: usize) -> Answer
-    requires { FactorUnder listing.now table.now context i }
-    ensures { ChecksFactor factor listing.now table.now context i result }
+pub fn check_factor(rows: &Rows<'_>, context: Context, i: usize) -> Result<usize, CompileError>
+    requires { FactorUnder rows.now.listing.now rows.now.table.now context i }
+    ensures { ChecksFactor factor rows.now.listing.now rows.now.table.now context i result }
 {
-    let line = factor_at(table, i);
-    match line {
-        FactorLine::SingleSigFactor(_) => check_type_sig_pubkey(listing, table, context, i + 1),
+    match factor_at(rows.table, i) {
+        FactorLine::SingleSigFactor(_) => check_type_sig_pubkey(rows, context, i + 1),
         FactorLine::MultiSigFactor(l, m, count) => {
-            check_multi(listing, table, context, i + 1, l, m, count)
+            check_multi(rows, context, i + 1, l, m, count)
         }
     }
 }

@@ -1,9 +1,7 @@
--- Numbers in decimal and a text that is put, computed.
-use mathlib.Core.Path.{◌≡◌, refl}
-use mathlib.Core.Bool.{true, false}
-use mathlib.Core.List.{[], ◌∷◌}
+-- Numbers in decimal and a text that is stored, computed.
+use Rattle.std.proofs.Common.{◌≡◌, refl, ℕ, [], ◌∷◌}
+use Rattle.std.proofs.lemmas.List.Edits.{sets}
 use Rattle.output.specs.Decimal.{digits, decimal}
-use Rattle.output.specs.Put.{puts, last_digits}
 
 zero_is : decimal 0 ≡ 48 ∷ []
 unfolding decimal digits
@@ -21,18 +19,5 @@ largest-is : decimal 4294967295 ≡ 52 ∷ 50 ∷ 57 ∷ 52 ∷ 57 ∷ 54 ∷ 55
 unfolding decimal digits
 largest-is = refl
 
-last-three-are : last_digits 3 12049 ≡ 48 ∷ 52 ∷ 57 ∷ []
-unfolding last_digits
-last-three-are = refl
-
-short-three-are : last_digits 3 7 ≡ 48 ∷ 48 ∷ 55 ∷ []
-unfolding last_digits
-short-three-are = refl
-
-written_is : puts true (1 ∷ 2 ∷ 3 ∷ 4 ∷ []) 1 (65 ∷ 66 ∷ []) ≡ 1 ∷ 65 ∷ 66 ∷ 4 ∷ []
-unfolding puts
-written_is = refl
-
-measured-is : puts false (1 ∷ 2 ∷ 3 ∷ 4 ∷ []) 1 (65 ∷ 66 ∷ []) ≡ 1 ∷ 2 ∷ 3 ∷ 4 ∷ []
-unfolding puts
-measured-is = refl
+stored_is : sets {A = ℕ} (1 ∷ 2 ∷ 3 ∷ 4 ∷ []) 1 (65 ∷ 66 ∷ []) ≡ 1 ∷ 65 ∷ 66 ∷ 4 ∷ []
+stored_is = refl

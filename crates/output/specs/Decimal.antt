@@ -12,3 +12,7 @@ digits (suc k) n after = elim (ltb n 10) [
 -- a number in decimal
 unfoldable pub decimal : ℕ → List ℕ
 decimal n = digits (suc n) n []
+
+-- the last digit of a number
+abbrev pub last_digit : ℕ → ℕ
+last_digit n = 48 + n % 10

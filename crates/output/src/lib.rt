@@ -1,39 +1,94 @@
-// Text put into a lent output from a position on, or only measured: `writing` says whether bytes are stored.
-// Each function returns the position after its text, which is the same in both cases.
+// Text put into a sink: stored in a lent output, or only counted.
 #![tactic(auto)]
 
-ghost use Rattle.std.specs.Prelude.{true, [], ◌∷◌, ◌≡◌, ◌+◌, length};
-ghost use Rattle.output.specs.Decimal.{decimal};
-ghost use Rattle.output.specs.Put.{Room, Wrote, last_digits};
+ghost use Rattle.std.specs.Prelude.{◌≡◌, ◌≤◌, ◌∷◌, [], ℕ, ◌+◌, ◌/◌, List, length};
+ghost use Rattle.std.proofs.lemmas.List.Edits.{sets};
+ghost use Rattle.output.specs.Decimal.{decimal, last_digit};
+ghost use Rattle.output.specs.Sink.{SinkLaws};
+ghost use Rattle.output.specs.Sinks.{counted, IsCount, counter_laws, stored, HasRoom, writer_laws};
 
 const COMMA: u8 = 44;
 
-// One byte.
-pub fn put_byte(output: &mut [u8], writing: bool, at: usize, b: u8) -> usize
-    requires { Room writing output.old at (b ∷ []) 1 }
-    ensures { Wrote writing output.old at (b ∷ []) 1 output.new result }
-{
-    if writing {
-        output[at] = b;
-    }
-    at + 1
+// Where text is put.
+pub trait Sink {
+    // the sink after a text
+    ghost after: { Self → List ℕ → Self };
+
+    // there is room for a text
+    ghost fits: { Self → List ℕ → Type 0 };
+
+    ghost laws: { SinkLaws after fits };
+
+    // One byte.
+    fn put(&mut self, b: u8)
+        requires { fits self.old (b ∷ []) }
+        ensures { self.new ≡ after self.old (b ∷ []) };
+
+    // All of `s`.
+    fn put_all(&mut self, s: &[u8])
+        requires { fits self.old s.now }
+        ensures { self.new ≡ after self.old s.now };
+
+    // A number in decimal.
+    fn put_decimal(&mut self, x: u32)
+        requires { fits self.old (decimal x) }
+        ensures { self.new ≡ after self.old (decimal x) };
 }
 
-// All of `s`.
-pub fn put_bytes(output: &mut [u8], writing: bool, at: usize, s: &[u8]) -> usize
-    requires { Room writing output.old at s.now (length s.now) }
-    ensures { Wrote writing output.old at s.now (length s.now) output.new result }
-{
-    if !writing {
-        return at + s.len();
+// Counts the bytes of a text, in 64 bits, which hold the length of any report.
+#[derive(Clone, Copy, PartialEq, Eq)]
+pub struct Counter {
+    pub length: usize,
+}
+
+impl Sink for Counter {
+    ghost after = { counted };
+
+    ghost fits = { IsCount };
+
+    ghost laws = { counter_laws };
+
+    fn put(&mut self, _b: u8) {
+        self.length = self.length.wrapping_add(1);
     }
-    let mut next = at;
-    let mut i: usize = 0;
-    while i < s.len() {
-        next = put_byte(output, true, next, s[i]);
-        i += 1;
+
+    fn put_all(&mut self, s: &[u8]) {
+        self.length = self.length.wrapping_add(s.len());
     }
-    next
+
+    fn put_decimal(&mut self, x: u32) {
+        self.length = self.length.wrapping_add(decimal_length(x));
+    }
+}
+
+// Stores a text in a lent output, from `at` on.
+#[derive(Drop)]
+pub struct Writer<'a> {
+    pub output: &'a mut [u8],
+    pub at: usize,
+}
+
+impl Sink for Writer<'_> {
+    ghost after = { stored };
+
+    ghost fits = { HasRoom };
+
+    ghost laws = { writer_laws };
+
+    fn put(&mut self, b: u8) {
+        self.output[self.at] = b;
+        self.at += 1;
+    }
+
+    fn put_all(&mut self, s: &[u8]) {
+        let end = self.at + s.len();
+        self.output[self.at..end].copy_from_slice(s);
+        self.at = end;
+    }
+
+    fn put_decimal(&mut self, x: u32) {
+        self.at = write_decimal(self.output, self.at, x);
+    }
 }
 
 // How many digits a number has.
@@ -55,75 +110,70 @@ fn decimal_length(x: u32) -> usize
     4 + decimal_length(x / 10000)
 }
 
-// The last digit of a number, written.
-fn write_digit(output: &mut [u8], at: usize, x: u32) -> usize
-    requires { Room true output.old at (last_digits 1 x) 1 }
-    ensures { Wrote true output.old at (last_digits 1 x) 1 output.new result }
+// The last digit of a number.
+fn digit(x: u32) -> u8
+    ensures { result ≡ last_digit x }
 {
-    put_byte(output, true, at, (48 + x % 10) as u8)
+    b'0' + (x % 10) as u8
 }
 
-// The last two digits of a number, written.
-fn write_two(output: &mut [u8], at: usize, x: u32) -> usize
-    requires { Room true output.old at (last_digits 2 x) 2 }
-    ensures { Wrote true output.old at (last_digits 2 x) 2 output.new result }
+// The last two digits of a number.
+fn write_two(output: &mut [u8], at: usize, x: u32)
+    requires { at + 2 ≤ length output.old }
+    ensures { output.new ≡ sets output.old at (last_digit (x / 10) ∷ last_digit x ∷ []) }
 {
-    let n = write_digit(output, at, x / 10);
-    write_digit(output, n, x)
+    output[at] = digit(x / 10);
+    output[at + 1] = digit(x);
 }
 
-// The last three digits of a number, written.
-fn write_three(output: &mut [u8], at: usize, x: u32) -> usize
-    requires { Room true output.old at (last_digits 3 x) 3 }
-    ensures { Wrote true output.old at (last_digits 3 x) 3 output.new result }
+// The last three digits of a number.
+fn write_three(output: &mut [u8], at: usize, x: u32)
+    requires { at + 3 ≤ length output.old }
+    ensures { output.new ≡ sets output.old at (last_digit (x / 100) ∷ last_digit (x / 10) ∷ last_digit x ∷ []) }
 {
-    let n = write_two(output, at, x / 10);
-    write_digit(output, n, x)
+    output[at] = digit(x / 100);
+    write_two(output, at + 1, x);
 }
 
-// A number in decimal, written: three digits at a time.
+// A number in decimal, three digits at a time, which is faster than one. Returns the position after it.
 fn write_decimal(output: &mut [u8], at: usize, x: u32) -> usize
-    requires { Room true output.old at (decimal x) 10 }
-    ensures { Wrote true output.old at (decimal x) 10 output.new result }
+    requires { at + length (decimal x) ≤ length output.old }
+    ensures text { output.new ≡ sets output.old at (decimal x) }
+    ensures past { result ≡ at + length (decimal x) }
 {
     if x < 10 {
-        return write_digit(output, at, x);
+        output[at] = digit(x);
+        return at + 1;
     }
     if x < 100 {
-        return write_two(output, at, x);
+        write_two(output, at, x);
+        return at + 2;
     }
     if x < 1000 {
-        return write_three(output, at, x);
+        write_three(output, at, x);
+        return at + 3;
     }
-    let n = write_decimal(output, at, x / 1000);
-    write_three(output, n, x)
-}
-
-// A number in decimal.
-pub fn put_decimal(output: &mut [u8], writing: bool, at: usize, x: u32) -> usize
-    requires { Room writing output.old at (decimal x) 10 }
-    ensures { Wrote writing output.old at (decimal x) 10 output.new result }
-{
-    if writing {
-        return write_decimal(output, at, x);
-    }
-    at + decimal_length(x)
+    let next = write_decimal(output, at, x / 1000);
+    write_three(output, next, x);
+    next + 3
 }
 
 // A field: a comma and a number.
-pub fn put_field(output: &mut [u8], writing: bool, at: usize, x: u32) -> usize
-    requires { Room writing output.old at (44 ∷ decimal x) 11 }
-    ensures { Wrote writing output.old at (44 ∷ decimal x) 11 output.new result }
+pub fn put_field<S: Sink>(sink: &mut S, x: u32)
+    requires { S.fits sink.old (44 ∷ decimal x) }
+    ensures text { sink.new ≡ S.after sink.old (44 ∷ decimal x) }
+    ensures short { length (44 ∷ decimal x) ≤ 11 }
 {
-    let n = put_byte(output, writing, at, COMMA);
-    put_decimal(output, writing, n, x)
+    sink.put(COMMA);
+    sink.put_decimal(x);
 }
 
 // A field of bytes: a comma and `s`.
-pub fn put_part(output: &mut [u8], writing: bool, at: usize, s: &[u8]) -> usize
-    requires { Room writing output.old at (44 ∷ s.now) (1 + length s.now) }
-    ensures { Wrote writing output.old at (44 ∷ s.now) (1 + length s.now) output.new result }
+pub fn put_part<S: Sink>(sink: &mut S, s: &[u8])
+    requires { S.fits sink.old (44 ∷ s.now) }
+    ensures text { sink.new ≡ S.after sink.old (44 ∷ s.now) }
+    ensures short { length (44 ∷ s.now) ≤ 1 + length s.now }
 {
-    let n = put_byte(output, writing, at, COMMA);
-    put_bytes(output, writing, n, s)
+    sink.put(COMMA);
+    sink.put_all(s);
 }

@@ -2,7 +2,7 @@
 use Prim.Native.Nat.{ℕ, zero, suc, ◌+◌, ◌-◌, ◌≤◌, ◌<◌}
 use native.Mathlib.Numerals.{add-one}
 use native.Mathlib.Omega.{arith}
-use mathlib.Core.Bool.{Bool, true, false, ◌||◌, or-true}
+use mathlib.Core.Bool.{Bool, true, false, ◌||◌, or-true, cond}
 use mathlib.Core.List.{List, [], ◌∷◌, ◌++◌, map, reverse_aux, append_assoc, append-nil}
 use mathlib.Core.Option.{none}
 use mathlib.Core.Path.{◌≡◌, refl, sym, ap, ap₂, ◌∙◌, subst}
@@ -11,25 +11,24 @@ use borrow.Author.Tests.{ltb-true, ltb-false, eqb-true, eqb-false}
 use lib.Dec.{ltb, eqb}
 use lib.Pow.{pow_pos}
 use lib.Seq.{take-suc, drop-cons, get_or-set_same, get_or-set_other}
+use Rattle.std.specs.Prelude.{Ok, Err, Some}
+use Rattle.std.specs.List.{position_from}
+use Rattle.std.specs.Option.{is_some}
 use Rattle.ast.specs.declared.ErrorKind.TheVariants.{DuplicateVariable}
 use Rattle.ast.specs.Tree.{Name, same, StackParam, Declaration, fault}
 use Rattle.text.specs.Text.{part}
 use Rattle.rows.specs.Rows.{line_in}
 use Rattle.reader.specs.Reading.{item}
 use Rattle.reader.specs.Spells.{SpellsItems}
-use Rattle.rules.specs.Result.{Result, ok, err, ◌>>=◌, refuse}
+use Rattle.rules.specs.Result.{Result, ◌>>=◌, refuse}
 use Rattle.rules.specs.Table.{Entry, Table, params, among, enter, build}
-use Rattle.nodes.specs.declared.Answer.TheVariants.{Pass, Fault}
 use Rattle.names.specs.declared.Item.{Item}
-use Rattle.names.specs.declared.Found.{Found}
-use Rattle.names.specs.declared.Found.TheVariants.{At, Missing}
-use Rattle.names.specs.Items.{NamedRow, line_of, item_in, items_down, found_from, found_in}
-use Rattle.names.proofs.Laws.{item-is, items-are}
+use Rattle.names.specs.Items.{NamedRow, line_of, item_in, items_down, found_in}
+use Rattle.names.proofs.Laws.{named, item-is, items-are}
 use Rattle.paths.specs.declared.NamePlace.{NamePlace}
 use Rattle.paths.specs.declared.Path.{Path}
-use Rattle.paths.specs.declared.Used.{Used}
 use Rattle.taken.specs.Taken.{is_taken}
-use Rattle.paths.specs.Path.{taken_by, table_from, table_of, no_place, WellFormed, Placed, result_with, result_of}
+use Rattle.paths.specs.Path.{taken_by, table_from, table_of, no_place, WellFormed, Placed}
 use Rattle.paths.specs.Tables.{Built}
 use Rattle.taken.proofs.Bits.{run_none}
 use Rattle.paths.proofs.Tables.{row_named}
@@ -56,39 +55,39 @@ among-kept x [] met h = h
 among-kept x (y ∷ l) met h = among-kept x l (y ∷ met) (rw h (or-true (same x y)))
 
 -- a name is met just where it is found
-met-missing : (ps : List StackParam) (x : Name) (b : ℕ) (met : List Name) → found_from b ps x ≡ Missing → among x (met_by ps met) ≡ among x met
-unfolding found_from among
+met-missing : (ps : List StackParam) (x : Name) (b : ℕ) (met : List Name) → is_some (position_from (named x) b ps) ≡ false → among x (met_by ps met) ≡ among x met
+unfolding among
 met-missing [] x b met h = refl
-met-missing (p ∷ ps) x b met h = go (same x p.identifier) refl (met-missing ps x (suc b) (p.identifier ∷ met))
+met-missing (p ∷ ps) x b met h = go (same x p.identifier) refl (met-missing ps x (b + 1) (p.identifier ∷ met)) h
   where
-    go : (k : Bool) → same x p.identifier ≡ k → (found_from (suc b) ps x ≡ Missing → among x (met_by ps (p.identifier ∷ met)) ≡ (same x p.identifier || among x met)) → among x (met_by ps (p.identifier ∷ met)) ≡ among x met
-    go true q ih = let a : At b ≡ Missing = sym (rw (q, found_from)) ∙ h in let z : ◌≡◌ {A = ℕ} 0 1 = cc in absurd (omega arith)
-    go false q ih = ih (sym (rw (q, found_from)) ∙ h) ∙ rw q
+    go : (k : Bool) → same x p.identifier ≡ k → (is_some (position_from (named x) (b + 1) ps) ≡ false → among x (met_by ps (p.identifier ∷ met)) ≡ (same x p.identifier || among x met)) → is_some (cond k (Some b) (position_from (named x) (b + 1) ps)) ≡ false → among x (met_by ps (p.identifier ∷ met)) ≡ among x met
+    go true q ih e = cc
+    go false q ih e = ih e ∙ rw q
 
-met-found : (ps : List StackParam) (x : Name) (b k : ℕ) (met : List Name) → found_from b ps x ≡ At k → among x (met_by ps met) ≡ true
-unfolding found_from among
-met-found [] x b k met h = let z : ◌≡◌ {A = ℕ} 0 1 = cc in absurd (omega arith)
-met-found (p ∷ ps) x b k met h = go (same x p.identifier) refl (met-found ps x (suc b) k (p.identifier ∷ met))
+met-found : (ps : List StackParam) (x : Name) (b : ℕ) (met : List Name) → is_some (position_from (named x) b ps) ≡ true → among x (met_by ps met) ≡ true
+unfolding among
+met-found [] x b met h = cc
+met-found (p ∷ ps) x b met h = go (same x p.identifier) refl (met-found ps x (b + 1) (p.identifier ∷ met)) h
   where
-    go : (c : Bool) → same x p.identifier ≡ c → (found_from (suc b) ps x ≡ At k → among x (met_by ps (p.identifier ∷ met)) ≡ true) → among x (met_by ps (p.identifier ∷ met)) ≡ true
-    go true q ih = among-kept x (map (λ p. p.identifier) ps) (p.identifier ∷ met) (rw q)
-    go false q ih = ih (sym (rw (q, found_from)) ∙ h)
+    go : (c : Bool) → same x p.identifier ≡ c → (is_some (position_from (named x) (b + 1) ps) ≡ true → among x (met_by ps (p.identifier ∷ met)) ≡ true) → is_some (cond c (Some b) (position_from (named x) (b + 1) ps)) ≡ true → among x (met_by ps (p.identifier ∷ met)) ≡ true
+    go true q ih e = among-kept x (map (λ p. p.identifier) ps) (p.identifier ∷ met) (rw q)
+    go false q ih e = ih e
 
 -- the items qs being entered, what entering the items rs gives
 unfoldable pub entered : List StackParam → List StackParam → Result Table
-entered qs rs = enter (met_by qs []) rs >>= λ t. ok (map fresh qs ++ t)
+entered qs rs = enter (met_by qs []) rs >>= λ t. Ok (map fresh qs ++ t)
 
 params-fresh : (qs : List StackParam) → params (map fresh qs) ≡ qs
 params-fresh [] = refl
 params-fresh (q ∷ qs) = rw (params-fresh qs)
 
-bind_ok : {A B C : Type 0} (r : Result A) (f : A → B) (g : B → C) → (r >>= λ a. ok (f a)) >>= (λ b. ok (g b)) ≡ (r >>= λ a. ok (g (f a)))
-bind_ok (ok a) f g = refl
-bind_ok (err x) f g = refl
+bind_ok : {A B C : Type 0} (r : Result A) (f : A → B) (g : B → C) → (r >>= λ a. Ok (f a)) >>= (λ b. Ok (g b)) ≡ (r >>= λ a. Ok (g (f a)))
+bind_ok (Ok a) f g = refl
+bind_ok (Err x) f g = refl
 
-bind-same : {A B : Type 0} (r : Result A) (f g : A → B) → ((a : A) → f a ≡ g a) → (r >>= λ a. ok (f a)) ≡ (r >>= λ a. ok (g a))
-bind-same (ok a) f g h = ap ok (h a)
-bind-same (err x) f g h = refl
+bind-same : {A B : Type 0} (r : Result A) (f g : A → B) → ((a : A) → f a ≡ g a) → (r >>= λ a. Ok (f a)) ≡ (r >>= λ a. Ok (g a))
+bind-same (Ok a) f g h = ap Ok (h a)
+bind-same (Err x) f g h = refl
 
 map_last : (qs : List StackParam) (q : StackParam) → map fresh (qs ++ (q ∷ [])) ≡ map fresh qs ++ (fresh q ∷ [])
 map_last [] q = refl
@@ -99,12 +98,12 @@ names-last [] q met = refl
 names-last (p ∷ qs) q met = names-last qs q (p.identifier ∷ met)
 
 module _ (qs : List StackParam) (q : StackParam) (rs : List StackParam) where
-  entered-twice : {k : ℕ} → found_in qs q.identifier ≡ At k → entered qs (q ∷ rs) ≡ refuse DuplicateVariable q.loc
-  unfolding entered enter found_in
-  entered-twice {k} h = rw (met-found qs q.identifier 0 k [] h, enter)
+  entered-twice : is_some (found_in qs q.identifier) ≡ true → entered qs (q ∷ rs) ≡ refuse DuplicateVariable q.loc
+  unfolding entered enter
+  entered-twice h = rw (met-found qs q.identifier 0 [] h, enter)
 
-  entered-more : found_in qs q.identifier ≡ Missing → entered (qs ++ (q ∷ [])) rs ≡ entered qs (q ∷ rs)
-  unfolding entered enter found_in among
+  entered-more : is_some (found_in qs q.identifier) ≡ false → entered (qs ++ (q ∷ [])) rs ≡ entered qs (q ∷ rs)
+  unfolding entered enter among
   entered-more h =
       sym (rw (met-missing qs q.identifier 0 [] h, enter)
       (bind_ok (enter (q.identifier ∷ met_by qs []) rs) (λ t. fresh q ∷ t) (λ t. map fresh qs ++ t)
@@ -209,9 +208,9 @@ pub build-start : (s t : List ℕ) (first count : ℕ) {p : Path} → p ≡ reco
 unfolding entered table_of table_from
 build-start s t first count e = rw e (record { sound = none-sound s t; placed = none-placed (first + count); entries = refl; untouched = refl; table = refl; rest = bind-id (enter [] (items_down s t first count)) })
   where
-    bind-id : (r : Result Table) → (r >>= λ t. ok t) ≡ r
-    bind-id (ok a) = refl
-    bind-id (err x) = refl
+    bind-id : (r : Result Table) → (r >>= λ t. Ok t) ≡ r
+    bind-id (Ok a) = refl
+    bind-id (Err x) = refl
 
 -- the items at hand: those entered, the next, those to come
 module _ (s t : List ℕ) (first count k : ℕ) (lt : k < count) where
@@ -236,15 +235,15 @@ spelled s t first count d sp = rw (← items-are s t sp)
 
 module _ {s t : List ℕ} {first count k : ℕ} {p : Path} (b : Building s t first count k p) where
   -- the end: what is built is the declaration's that stands at these rows
-  pub build-done : {u : Used} → count ≤ k → u ≡ record { path = p; answer = Pass (first + count) } → (d : Declaration) → SpellsItems (line_in t) StackParam (item s) count first d (first + count) → Built s t d (first + count) u
-  unfolding result_of result_with entered enter
+  pub build-done : {r : Result Path} → count ≤ k → r ≡ Ok p → (d : Declaration) → SpellsItems (line_in t) StackParam (item s) count first d (first + count) → Built s t d (first + count) r
+  unfolding entered enter
   build-done h e d sp =
       let l = items_down s t first count in
       let all : length l ≤ k = omega (arith, down-length s t first count) in
-      let whole : entered (take k l) (drop k l) ≡ ok (table_of s t p) = rw (drop_of_length-le l all) (ap ok (append-nil (map fresh (take k l)) ∙ sym b.table)) in
+      let whole : entered (take k l) (drop k l) ≡ Ok (table_of s t p) = rw (drop_of_length-le l all) (ap Ok (append-nil (map fresh (take k l)) ∙ sym b.table)) in
       record {
         result = rw e (sym whole ∙ b.rest ∙ spelled s t first count d sp);
-        onward = λ n q. let a : Pass (first + count) ≡ Pass n = sym (ap (λ v. v.answer) e) ∙ q in let m : first + count ≡ n = cc in (sym m, rw e b.sound, rw e b.placed);
+        onward = λ q o. let m : p ≡ q = cc in rw (← m) (b.sound, b.placed);
       }
 
   module _ (lt : k < count) (it : Item) (is : line_in t (first + (count - 1 - k)) ≡ line_of it) where
@@ -252,21 +251,18 @@ module _ {s t : List ℕ} {first count k : ℕ} {p : Path} (b : Building s t fir
     unfolding next-item
     what = item-is s t (first + (count - 1 - k)) it is
 
-    found : {f : Found} → f ≡ found_in (params (table_of s t p)) (part s it.name) → found_in (take k (items_down s t first count)) (next-item s t first count k lt).identifier ≡ f
-    found h = sym (h ∙ ap₂ found_in (ap params b.table ∙ params-fresh (take k (items_down s t first count))) (ap (λ q. q.identifier) (sym what)))
+    -- whether the next name is found among those entered
+    found : {b : Bool} → b ≡ is_some (found_in (params (table_of s t p)) (part s it.name)) → is_some (found_in (take k (items_down s t first count)) (next-item s t first count k lt).identifier) ≡ b
+    found h = sym (h ∙ ap₂ (λ ps x. is_some (found_in ps x)) (ap params b.table ∙ params-fresh (take k (items_down s t first count))) (ap (λ q. q.identifier) (sym what)))
 
-    pub build-twice : {u : Used} {m : ℕ} → At m ≡ found_in (params (table_of s t p)) (part s it.name) → u ≡ record { path = p; answer = Fault (fault DuplicateVariable it.loc) } → (d : Declaration) → SpellsItems (line_in t) StackParam (item s) count first d (first + count) → Built s t d (first + count) u
-    unfolding result_of result_with
-    build-twice {u} {m} h e d sp =
+    pub build-twice : {r : Result Path} → true ≡ is_some (found_in (params (table_of s t p)) (part s it.name)) → r ≡ Err (fault DuplicateVariable it.loc) → (d : Declaration) → SpellsItems (line_in t) StackParam (item s) count first d (first + count) → Built s t d (first + count) r
+    build-twice h e d sp =
         let l = items_down s t first count in
         let q = next-item s t first count k lt in
         let fault-is : entered (take k l) (drop k l) ≡ refuse DuplicateVariable it.loc = ap (entered (take k l)) (come s t first count k lt) ∙ entered-twice (take k l) q (drop (suc k) l) (found h) ∙ ap (λ y. refuse DuplicateVariable y.loc) what in
-        record {
-          result = rw e (sym fault-is ∙ b.rest ∙ spelled s t first count d sp);
-          onward = λ n g. let a : Fault (fault DuplicateVariable it.loc) ≡ Pass n = sym (ap (λ v. v.answer) e) ∙ g in let z : ◌≡◌ {A = ℕ} 0 1 = cc in absurd (omega arith);
-        }
+        record { result = rw e (sym fault-is ∙ b.rest ∙ spelled s t first count d sp); onward = λ q o. cc }
 
-    pub build-more : Missing ≡ found_in (params (table_of s t p)) (part s it.name) → count ≤ 32 → NamedRow s t (first + (count - 1 - k)) → Building s t first count (k + 1) (added p (first + (count - 1 - k)))
+    pub build-more : false ≡ is_some (found_in (params (table_of s t p)) (part s it.name)) → count ≤ 32 → NamedRow s t (first + (count - 1 - k)) → Building s t first count (k + 1) (added p (first + (count - 1 - k)))
     unfolding next-item
     build-more h few named =
         let l = items_down s t first count in

@@ -10,21 +10,20 @@ use borrow.Author.Tests.{lt-ltb, le-ltb, eq-eqb, eqb-true, eqb-false}
 use lib.Dec.{ltb, leb-suc-suc}
 use lib.ListN.{length, get_or, drop, get_elem?, set, length-set, get_or-map}
 use lib.Seq.{drop-cons, map-set_same, get_or-set_other}
+use Rattle.std.specs.Prelude.{Ok, Some, None, Option as StdOption}
+use Rattle.std.specs.List.{position_from}
 use Rattle.ast.specs.declared.Location.{Location}
 use Rattle.ast.specs.declared.ErrorKind.TheVariants.{UndefinedVariable, VariableConsumed, InvalidConsumptionOrder}
 use Rattle.ast.specs.Tree.{Name, same, StackParam}
-use Rattle.text.specs.declared.Place.{Place}
 use Rattle.text.specs.Text.{part}
 use Rattle.rows.specs.Rows.{line_in}
-use Rattle.rules.specs.Result.{ok, refuse}
+use Rattle.rules.specs.Result.{refuse}
 use Rattle.rules.specs.Table.{Entry, Table, params}
 use Rattle.rules.specs.Usage.{take, free, mark as mark_entry}
 use Rattle.rules.proofs.ByPosition.{find, free_below, take_item, take_found, take_found_lem}
 use Rattle.names.specs.declared.Item.{Item}
-use Rattle.names.specs.declared.Found.{Found}
-use Rattle.names.specs.declared.Found.TheVariants.{At, Missing}
-use Rattle.names.specs.Items.{NamedRow, line_of, item_in, found_from, found_in}
-use Rattle.names.proofs.Laws.{name-is}
+use Rattle.names.specs.Items.{NamedRow, line_of, item_in, found_in}
+use Rattle.names.proofs.Laws.{named, name-is}
 use Rattle.paths.specs.declared.NamePlace.{NamePlace}
 use Rattle.paths.specs.declared.Path.{Path}
 use Rattle.taken.specs.Taken.{bit_at, is_taken, with_bit, free_in, first_free}
@@ -49,8 +48,8 @@ module _ (s t : List ℕ) where
   rows-items : (qs rs : List NamePlace) (n : ℕ) → map (λ q. q.row) qs ≡ map (λ q. q.row) rs → items_from qs n ≡ items_from rs n
   unfolding items_from
   rows-items [] [] n h = refl
-  rows-items [] (r ∷ rs) n h = let z : ◌≡◌ {A = ℕ} 0 1 = cc in absurd (omega arith)
-  rows-items (q ∷ qs) [] n h = let z : ◌≡◌ {A = ℕ} 0 1 = cc in absurd (omega arith)
+  rows-items [] (r ∷ rs) n h = cc
+  rows-items (q ∷ qs) [] n h = cc
   rows-items (q ∷ qs) (r ∷ rs) zero h = refl
   rows-items (q ∷ qs) (r ∷ rs) (suc n) h =
       let e : q.row ≡ r.row = cc in
@@ -113,83 +112,79 @@ row_named {s} {t} {p} w k h = rw (← get_or-map (λ (q : NamePlace). q.row) p.p
 -- ---- the position of a name
 
 -- where the position i, counted from b, is
-abbrev at_from : ℕ → Option ℕ → Found
-at_from b none = Missing
-at_from b (some i) = At (b + i)
+abbrev at_from : ℕ → Option ℕ → StdOption ℕ
+at_from b none = None
+at_from b (some i) = Some (b + i)
 
-found-find : (tb : Table) (x : Name) (b : ℕ) → found_from b (params tb) x ≡ at_from b (find x tb)
-unfolding found_from find
+found-find : (tb : Table) (x : Name) (b : ℕ) → position_from (named x) b (params tb) ≡ at_from b (find x tb)
+unfolding find
 found-find [] x b = refl
-found-find (e ∷ tb) x b = go (same x e.param.identifier) refl (found-find tb x (suc b))
+found-find (e ∷ tb) x b = go (same x e.param.identifier) refl (found-find tb x (b + 1))
   where
-    later : (o : Option ℕ) → at_from (suc b) o ≡ at_from b (elim o as (λ o'. Option ℕ) [ none ↦ none | some i ↦ some (suc i) ])
+    later : (o : Option ℕ) → at_from (b + 1) o ≡ at_from b (elim o as (λ o'. Option ℕ) [ none ↦ none | some i ↦ some (suc i) ])
     later none = refl
-    later (some i) = let e : suc b + i ≡ b + suc i = omega arith in ap At e
+    later (some i) = let e : b + 1 + i ≡ b + suc i = omega arith in ap Some e
 
-    go : (k : Bool) → same x e.param.identifier ≡ k → found_from (suc b) (params tb) x ≡ at_from (suc b) (find x tb) → found_from b (params (e ∷ tb)) x ≡ at_from b (find x (e ∷ tb))
-    go true q ih = let z : b ≡ b + 0 = omega arith in rw (q, found_from) (rw (q, find) (ap At z))
-    go false q ih = rw (q, found_from) (rw (q, find) (ih ∙ later (find x tb)))
+    go : (k : Bool) → same x e.param.identifier ≡ k → position_from (named x) (b + 1) (params tb) ≡ at_from (b + 1) (find x tb) → position_from (named x) b (params (e ∷ tb)) ≡ at_from b (find x (e ∷ tb))
+    go true q ih = let z : b ≡ b + 0 = omega arith in rw q (rw (q, find) (ap Some z))
+    go false q ih = rw q (rw (q, find) (ih ∙ later (find x tb)))
 
-find-missing : (tb : Table) (x : Name) → found_in (params tb) x ≡ Missing → find x tb ≡ none
-unfolding found_in
+find-missing : (tb : Table) (x : Name) → found_in (params tb) x ≡ None → find x tb ≡ none
 find-missing tb x e = go (find x tb) refl (sym (found-find tb x 0) ∙ e)
   where
-    go : (o : Option ℕ) → find x tb ≡ o → at_from 0 (find x tb) ≡ Missing → find x tb ≡ none
+    go : (o : Option ℕ) → find x tb ≡ o → at_from 0 (find x tb) ≡ None → find x tb ≡ none
     go none q h = q
-    go (some i) q h = let a : At (0 + i) ≡ Missing = sym (ap (at_from 0) q) ∙ h in let z : ◌≡◌ {A = ℕ} 0 1 = cc in absurd (omega arith)
+    go (some i) q h = let a : Some (0 + i) ≡ None = sym (ap (at_from 0) q) ∙ h in cc
 
-find-some : (tb : Table) (x : Name) (k : ℕ) → found_in (params tb) x ≡ At k → find x tb ≡ some k
-unfolding found_in
+find-some : (tb : Table) (x : Name) (k : ℕ) → found_in (params tb) x ≡ Some k → find x tb ≡ some k
 find-some tb x k e = go (find x tb) refl (sym (found-find tb x 0) ∙ e)
   where
-    go : (o : Option ℕ) → find x tb ≡ o → at_from 0 (find x tb) ≡ At k → find x tb ≡ some k
-    go none q h = let a : Missing ≡ At k = sym (ap (at_from 0) q) ∙ h in let z : ◌≡◌ {A = ℕ} 0 1 = cc in absurd (omega arith)
-    go (some i) q h = let a : At (0 + i) ≡ At k = sym (ap (at_from 0) q) ∙ h in let n : 0 + i ≡ k = cc in q ∙ ap some (omega arith)
+    go : (o : Option ℕ) → find x tb ≡ o → at_from 0 (find x tb) ≡ Some k → find x tb ≡ some k
+    go none q h = let a : None ≡ Some k = sym (ap (at_from 0) q) ∙ h in cc
+    go (some i) q h = let a : Some (0 + i) ≡ Some k = sym (ap (at_from 0) q) ∙ h in let n : 0 + i ≡ k = cc in q ∙ ap some (omega arith)
 
 find-below : (tb : Table) (x : Name) (k : ℕ) → find x tb ≡ some k → k < length tb
 unfolding find
-find-below [] x k e = let z : ◌≡◌ {A = ℕ} 0 1 = cc in absurd (omega arith)
+find-below [] x k e = cc
 find-below (e ∷ tb) x k h = go (same x e.param.identifier) refl (find x tb) refl (find-below tb x)
   where
     go : (b : Bool) → same x e.param.identifier ≡ b → (o : Option ℕ) → find x tb ≡ o → ((k : ℕ) → find x tb ≡ some k → k < length tb) → k < suc (length tb)
     go true q o w ih = let a : some 0 ≡ some k = sym (rw (q, find)) ∙ h in let i : 0 ≡ k = cc in omega arith
-    go false q none w ih = let a : ◌≡◌ {A = Option ℕ} none (some k) = sym (rw (q, find) (rw w)) ∙ h in let z : ◌≡◌ {A = ℕ} 0 1 = cc in absurd (omega arith)
+    go false q none w ih = let a : ◌≡◌ {A = Option ℕ} none (some k) = sym (rw (q, find) (rw w)) ∙ h in cc
     go false q (some i) w ih = let a : some (suc i) ≡ some k = sym (rw (q, find) (rw w)) ∙ h in let n : suc i ≡ k = cc in omega (arith, ih i w)
 
 -- the position found is one of the path's
-pub found_below : (s t : List ℕ) (p : Path) (x : Name) {k : ℕ} → found_in (params (table_of s t p)) x ≡ At k → k < p.count
+pub found_below : (s t : List ℕ) (p : Path) (x : Name) {k : ℕ} → found_in (params (table_of s t p)) x ≡ Some k → k < p.count
 unfolding table_of
 found_below s t p x {k} e = let tb = table_from s t p.places p.taken p.count in omega (arith, find-below tb x k (find-some tb x k e), table-length s t p.places p.taken p.count)
 
 -- the loop from the top down over a path's items, k of which have another name
-module _ (s t : List ℕ) (p : Path) (k : ℕ) (x : Place) where
+module _ (s t : List ℕ) (p : Path) (k : ℕ) (x : Name) where
   abbrev pub Left : Type 0
-  Left = found_from k (items_from s t (drop k p.places) (p.count - k)) (part s x) ≡ found_from 0 (items_from s t p.places p.count) (part s x)
+  Left = position_from (named x) k (items_from s t (drop k p.places) (p.count - k)) ≡ position_from (named x) 0 (items_from s t p.places p.count)
 
-  pub find-done : (r : Found) → r ≡ found_from 0 (items_from s t p.places p.count) (part s x) → r ≡ found_in (params (table_of s t p)) (part s x)
-  unfolding found_in table_of
-  find-done r e = e ∙ sym (ap (λ ps. found_from 0 ps (part s x)) (params-from s t p.places p.taken p.count))
+  pub find-done : (r : StdOption ℕ) → r ≡ position_from (named x) 0 (items_from s t p.places p.count) → r ≡ found_in (params (table_of s t p)) x
+  unfolding table_of
+  find-done r e = e ∙ sym (ap (λ ps. position_from (named x) 0 ps) (params-from s t p.places p.taken p.count))
 
-  pub find_none : Left → p.count ≤ k → Missing ≡ found_from 0 (items_from s t p.places p.count) (part s x)
-  unfolding found_from items_from
-  find_none h le = let e : p.count - k ≡ 0 = omega arith in sym (ap (λ n. found_from k (items_from s t (drop k p.places) n) (part s x)) e ∙ go (drop k p.places)) ∙ h
+  pub find_none : Left → p.count ≤ k → None ≡ position_from (named x) 0 (items_from s t p.places p.count)
+  unfolding items_from
+  find_none h le = let e : p.count - k ≡ 0 = omega arith in sym (ap (λ n. position_from (named x) k (items_from s t (drop k p.places) n)) e ∙ go (drop k p.places)) ∙ h
     where
-      go : (qs : List NamePlace) → found_from k (items_from s t qs 0) (part s x) ≡ Missing
+      go : (qs : List NamePlace) → position_from (named x) k (items_from s t qs 0) ≡ None
       go [] = refl
       go (q ∷ qs) = refl
 
   module _ (full : length p.places ≡ 32) (few : p.count ≤ 32) (lt : k < p.count) (it : Item) (is : line_in t (get_or p.places k no_place).row ≡ line_of it) where
-    items_at : items_from s t (drop k p.places) (p.count - k) ≡ item_in s t (get_or p.places k no_place).row ∷ items_from s t (drop (suc k) p.places) (p.count - suc k)
+    items_at : items_from s t (drop k p.places) (p.count - k) ≡ item_in s t (get_or p.places k no_place).row ∷ items_from s t (drop (k + 1) p.places) (p.count - (k + 1))
     unfolding items_from
-    items_at = let e : p.count - k ≡ suc (p.count - suc k) = omega arith in rw (e, drop-cons p.places k no_place (omega arith))
+    items_at = let a : k + 1 ≡ suc k = omega arith in let e : p.count - k ≡ suc (p.count - suc k) = omega arith in rw (a, e, drop-cons p.places k no_place (omega arith))
 
-    pub find-here : Left → true ≡ same (part s x) (part s it.name) → At k ≡ found_from 0 (items_from s t p.places p.count) (part s x)
-    unfolding found_from
-    find-here h e = sym (rw items_at (rw (name-is s t (get_or p.places k no_place).row it is (part s x) e, found_from))) ∙ h
+    pub find-here : Left → true ≡ same x (part s it.name) → Some k ≡ position_from (named x) 0 (items_from s t p.places p.count)
+    find-here h e = sym (rw items_at (rw (name-is s t (get_or p.places k no_place).row it is x e))) ∙ h
 
-    pub find-next : Left → false ≡ same (part s x) (part s it.name) → found_from (k + 1) (items_from s t (drop (k + 1) p.places) (p.count - (k + 1))) (part s x) ≡ found_from 0 (items_from s t p.places p.count) (part s x)
-    unfolding found_from
-    find-next h e = let a : k + 1 ≡ suc k = omega arith in rw a (sym (rw items_at (rw (name-is s t (get_or p.places k no_place).row it is (part s x) e, found_from))) ∙ h)
+    pub find-next : Left → false ≡ same x (part s it.name) → position_from (named x) (k + 1) (items_from s t (drop (k + 1) p.places) (p.count - (k + 1))) ≡ position_from (named x) 0 (items_from s t p.places p.count)
+    find-next h e = sym (rw items_at (rw (name-is s t (get_or p.places k no_place).row it is x e))) ∙ h
 
 -- ---- position k taken by line n
 
@@ -217,11 +212,11 @@ marked-sound {s} {t} {p} w k n h le = record {
 
 -- the four answers to a variable
 module _ {s t : List ℕ} {p : Path} (w : WellFormed s t p) (l : Location) (n : ℕ) (x : Name) where
-  pub take-unknown : found_in (params (table_of s t p)) x ≡ Missing → take false l n x (table_of s t p) ≡ refuse UndefinedVariable l
+  pub take-unknown : found_in (params (table_of s t p)) x ≡ None → take false l n x (table_of s t p) ≡ refuse UndefinedVariable l
   unfolding take_found
   take-unknown e = take_found_lem false l n x (table_of s t p) ∙ rw (find-missing (table_of s t p) x e)
 
-  module _ {k : ℕ} (e : found_in (params (table_of s t p)) x ≡ At k) where
+  module _ {k : ℕ} (e : found_in (params (table_of s t p)) x ≡ Some k) where
     lt : k < p.count
     lt = found_below s t p x e
 
@@ -241,6 +236,6 @@ module _ {s t : List ℕ} {p : Path} (w : WellFormed s t p) (l : Location) (n : 
     unfolding take_item entry_at taken_by
     take-early b h = at ∙ rw (free-bit p.taken k b, lt-ltb (first_free p.taken) k h)
 
-    pub take_next : is_taken p.taken k ≡ false → k ≤ first_free p.taken → take false l n x (table_of s t p) ≡ ok (table_of s t (marked p k n))
+    pub take_next : is_taken p.taken k ≡ false → k ≤ first_free p.taken → take false l n x (table_of s t p) ≡ Ok (table_of s t (marked p k n))
     unfolding take_item entry_at taken_by table_of
-    take_next b h = at ∙ rw (free-bit p.taken k b, le-ltb (first_free p.taken) k h) (ap ok (mark-at s t p.places p.taken p.count k n lt (omega (arith, w.full, w.few))))
+    take_next b h = at ∙ rw (free-bit p.taken k b, le-ltb (first_free p.taken) k h) (ap Ok (mark-at s t p.places p.taken p.count k n lt (omega (arith, w.full, w.few))))

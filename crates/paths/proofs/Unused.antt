@@ -6,8 +6,8 @@ use mathlib.Core.List.{List, [], ◌∷◌}
 use mathlib.Core.Option.{some}
 use mathlib.Core.Path.{◌≡◌, ap, ◌∙◌}
 use lib.ListN.{get_or, drop, get_elem?, drop_of_length-le}
+use Rattle.std.specs.Prelude.{Ok, Err}
 use Rattle.ast.specs.declared.CompileError.{CompileError}
-use Rattle.ast.specs.declared.Checked.TheVariants.{Ok, Err}
 use Rattle.ast.specs.declared.ErrorKind.TheVariants.{UnusedVariable}
 use Rattle.ast.specs.Tree.{fault}
 use Rattle.rows.specs.Rows.{line_in}
@@ -23,7 +23,7 @@ use Rattle.taken.proofs.Bits.{taken-bit, free-bit}
 use Rattle.paths.proofs.Tables.{table-length, entry_at, entry-at}
 
 pub drop_at : {A : Type 0} (l : List A) (k : ℕ) {a : A} → get_elem? l k ≡ some a → drop k l ≡ a ∷ drop (suc k) l
-drop_at [] k h = let z : ◌≡◌ {A = ℕ} 0 1 = cc in absurd (omega arith)
+drop_at [] k h = cc
 drop_at (x ∷ l) zero {a} h = let e : x ≡ a = cc in rw e
 drop_at (x ∷ l) (suc k) h = drop_at l k h
 
@@ -35,12 +35,12 @@ unused-below [] (suc k) h = h
 unused-below (e ∷ tb) (suc k) h = rw (unused-below tb k h)
 
 module _ {s t : List ℕ} {p : Path} (w : WellFormed s t p) where
-  pub unused-none : unused (drop p.count (table_of s t p)) ≡ Ok
+  pub unused-none : unused (drop p.count (table_of s t p)) ≡ Ok tt
   unfolding unused table_of
   unused-none = rw (drop_of_length-le (table_of s t p) (table-length s t p.places p.taken p.count))
 
   -- the item at position n - 1, those below being taken
-  module _ {n : ℕ} (pos : 0 < n) (le : n ≤ p.count) (rest : unused (drop n (table_of s t p)) ≡ Ok) where
+  module _ {n : ℕ} (pos : 0 < n) (le : n ≤ p.count) (rest : unused (drop n (table_of s t p)) ≡ Ok tt) where
     at : drop (n - 1) (table_of s t p) ≡ entry_at s t p.places p.taken (n - 1) ∷ drop n (table_of s t p)
     unfolding table_of
     at =
@@ -48,7 +48,7 @@ module _ {s t : List ℕ} {p : Path} (w : WellFormed s t p) where
         drop_at (table_of s t p) (n - 1) (entry-at s t p.places p.taken p.count (n - 1) (omega arith) (omega (arith, w.full, w.few)))
         ∙ ap (λ m. entry_at s t p.places p.taken (n - 1) ∷ drop m (table_of s t p)) e
 
-    pub unused-taken : is_taken p.taken (n - 1) ≡ true → unused (drop (n - 1) (table_of s t p)) ≡ Ok
+    pub unused-taken : is_taken p.taken (n - 1) ≡ true → unused (drop (n - 1) (table_of s t p)) ≡ Ok tt
     unfolding unused used entry_at taken_by
     unused-taken b = rw (at, rest, taken-bit p.taken (n - 1) b)
 

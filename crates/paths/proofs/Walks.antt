@@ -6,34 +6,24 @@ use mathlib.Core.List.{List}
 use mathlib.Core.Path.{◌≡◌, refl, sym, ap, ◌∙◌}
 use lib.Dec.{eqb}
 use lib.ListN.{get_or, get_or-map}
+use Rattle.std.specs.Prelude.{Ok, Err}
 use Rattle.ast.specs.declared.CompileError.{CompileError}
-use Rattle.rules.specs.Result.{Result, ok, err}
+use Rattle.rules.specs.Result.{Result}
 use Rattle.rules.specs.Table.{Table}
-use Rattle.nodes.specs.declared.Answer.TheVariants.{Pass, Fault}
 use Rattle.paths.specs.declared.NamePlace.{NamePlace}
 use Rattle.paths.specs.declared.Path.{Path}
-use Rattle.paths.specs.declared.Used.{Used}
 use Rattle.taken.specs.Taken.{is_taken}
-use Rattle.paths.specs.Path.{table_of, no_place, WellFormed, SameItems, Placed, result_with, result_of, Walked}
+use Rattle.paths.specs.Path.{table_of, no_place, WellFormed, SameItems, Placed, Walked}
 use Rattle.taken.proofs.Bits.{bit_past}
 
-module _ {s t : List ℕ} {p q : Path} {w : Result Table} {j : ℕ} {u : Used} where
-  pub walk-fault : {x : CompileError} → u ≡ record { path = q; answer = Fault x } → w ≡ err x → Walked s t p w j u
-  unfolding result_of result_with
-  walk-fault {x} e f = record {
-    result = rw e (sym f);
-    onward = λ n h. let a : Fault x ≡ Pass n = sym (ap (λ v. v.answer) e) ∙ h in let z : ◌≡◌ {A = ℕ} 0 1 = cc in absurd (omega arith);
-  }
+module _ {s t : List ℕ} {p : Path} {w : Result Table} {r : Result Path} where
+  pub walk-fault : {x : CompileError} → r ≡ Err x → w ≡ Err x → Walked s t p w r
+  walk-fault {x} e f = record { result = rw (e, f); onward = λ q o. cc }
 
-  pub walk-pass : {n : ℕ} → u ≡ record { path = q; answer = Pass n } → w ≡ ok (table_of s t q) → n ≡ j → WellFormed s t q → SameItems p q → Walked s t p w j u
-  unfolding result_of result_with
-  walk-pass {n} e f g sound items = record {
-    result = rw e (sym f);
-    onward = λ m h. let a : Pass n ≡ Pass m = sym (ap (λ v. v.answer) e) ∙ h in let b : n ≡ m = cc in record {
-      next = sym b ∙ g;
-      sound = rw e sound;
-      items = rw e items;
-    };
+  pub walk-pass : {q : Path} → r ≡ Ok q → w ≡ Ok (table_of s t q) → WellFormed s t q → SameItems p q → Walked s t p w r
+  walk-pass {q} e f sound items = record {
+    result = rw (e, f);
+    onward = λ o h. let m : q ≡ o = cc in rw (← m) (record { sound = sound; items = items });
   }
 
 pub same-items : (p : Path) → SameItems p p
@@ -70,30 +60,14 @@ placed_on {s} {t} {p} {q} w i h = record {
   past = λ k le. i.rest k (ap (λ n. eqb n 1) (bit_past q.count q.taken k w.within le)) ∙ h.past k (omega (arith, i.count));
 }
 
-module _ {s t : List ℕ} {p : Path} {w : Result Table} {j : ℕ} {u : Used} (h : Walked s t p w j u) where
-  -- what a walk's answer says of the rule
-  pub walked-ok : {n : ℕ} → u.answer ≡ Pass n → w ≡ ok (table_of s t u.path)
-  unfolding result_of result_with
-  walked-ok e = sym h.result ∙ ap (result_with s t u.path) e
+module _ {s t : List ℕ} {p : Path} {w : Result Table} {r : Result Path} (h : Walked s t p w r) where
+  -- what the answer says of the rule
+  pub walked-ok : {q : Path} → r ≡ Ok q → w ≡ Ok (table_of s t q)
+  walked-ok e = sym h.result ∙ rw e
 
-  pub walked-err : {x : CompileError} → u.answer ≡ Fault x → w ≡ err x
-  unfolding result_of result_with
-  walked-err e = sym h.result ∙ ap (result_with s t u.path) e
+  pub walked-err : {x : CompileError} → r ≡ Err x → w ≡ Err x
+  walked-err e = sym h.result ∙ rw e
 
-  -- the same walk for an equal rule, and for a path of the same items before
-  pub walk_is : {v : Result Table} → v ≡ w → Walked s t p v j u
+  -- the same answer to an equal rule
+  pub walk_is : {v : Result Table} → v ≡ w → Walked s t p v r
   walk_is e = record { result = h.result ∙ sym e; onward = h.onward }
-
-  pub walk_from : {o : Path} {v : Result Table} → SameItems o p → v ≡ w → Walked s t o v j u
-  walk_from items e = record {
-    result = h.result ∙ sym e;
-    onward = λ n q. record { next = (h.onward n q).next; sound = (h.onward n q).sound; items = items-then items (h.onward n q).items };
-  }
-
-  -- a fault ends what the walk began
-  pub walk-stops : {o : Path} {v : Result Table} {i : ℕ} {x : CompileError} → u.answer ≡ Fault x → v ≡ err x → Walked s t o v i u
-  walk-stops {x = x} e f = walk-fault {q = u.path} (ap (λ a. record { path = u.path; answer = a }) e) f
-
--- a walk that takes nothing
-pub walk-idle : {s t : List ℕ} {p : Path} {v : Result Table} {n j : ℕ} {u : Used} → u ≡ record { path = p; answer = Pass n } → v ≡ ok (table_of s t p) → n ≡ j → WellFormed s t p → Walked s t p v j u
-walk-idle {p = p} e f g sound = walk-pass e f g sound (same-items p)

@@ -1,14 +1,11 @@
 -- A path of the code as a table of document 01, and what a walk over it answers.
-use Rattle.std.specs.Prelude.{ℕ, zero, suc, ◌+◌, ◌/◌, ◌%◌, ◌^◌, ◌≤◌, ◌<◌, List, [], ◌∷◌, map, true, false, ◌≡◌, length, get_or, set}
+use Rattle.std.specs.Prelude.{ℕ, zero, suc, ◌+◌, ◌/◌, ◌%◌, ◌^◌, ◌≤◌, ◌<◌, List, [], ◌∷◌, map, true, false, ◌≡◌, length, get_or, set, replicate, Ok, Err}
 use Rattle.std.proofs.Math.Option.{Option, some, none}
-use Rattle.rules.specs.Result.{Result, ok, err}
+use Rattle.rules.specs.Result.{Result}
 use Rattle.rules.specs.Table.{Table}
-use Rattle.nodes.specs.declared.Answer.{Answer}
-use Rattle.nodes.specs.declared.Answer.TheVariants.{Pass, Fault}
 use Rattle.names.specs.Items.{NamedRow, item_in}
 use Rattle.paths.specs.declared.NamePlace.{NamePlace}
 use Rattle.paths.specs.declared.Path.{Path}
-use Rattle.paths.specs.declared.Used.{Used}
 use Rattle.taken.specs.Taken.{is_taken, with_bit, is_run}
 
 -- the line that took an item, if its bit is 1
@@ -28,6 +25,10 @@ table_of s t p = table_from s t p.places p.taken p.count
 -- the place of what stands nowhere
 abbrev pub no_place : NamePlace
 no_place = record { row = 0; line = 0 }
+
+-- a path without items
+abbrev pub no_path : Path
+no_path = record { places = replicate 32 no_place; count = 0; taken = 0 }
 
 -- the rows of a path's items
 abbrev pub rows_of : Path → List ℕ
@@ -62,21 +63,17 @@ marked p k n = record {
   taken = with_bit p.taken k;
 }
 
--- a walk's answer as the rules have it
-unfoldable pub result_with : List ℕ → List ℕ → Path → Answer → Result Table
-result_with s t p (Pass n) = ok (table_of s t p)
-result_with s t p (Fault x) = err x
+-- a path, or a fault, as the rules have it
+abbrev pub result_of : List ℕ → List ℕ → Result Path → Result Table
+result_of s t (Ok q) = Ok (table_of s t q)
+result_of s t (Err x) = Err x
 
-unfoldable pub result_of : List ℕ → List ℕ → Used → Result Table
-result_of s t u = result_with s t u.path u.answer
+-- after a pass: the path q, which was p, is well formed and has the same items
+pub record Onward (s t : List ℕ) (p q : Path) : Type 0 where
+  pub sound : WellFormed s t q
+  pub items : SameItems p q
 
--- after a pass: the next row is j, and the path, which was p, is well formed and has the same items
-pub record Onward (s t : List ℕ) (p : Path) (j : ℕ) (u : Used) (n : ℕ) : Type 0 where
-  pub next : n ≡ j
-  pub sound : WellFormed s t u.path
-  pub items : SameItems p u.path
-
--- what a walk from the path p answers: a rule's result, and after a pass it is at row j
-pub record Walked (s t : List ℕ) (p : Path) (w : Result Table) (j : ℕ) (u : Used) : Type 0 where
-  pub result : result_of s t u ≡ w
-  pub onward : (n : ℕ) → u.answer ≡ Pass n → Onward s t p j u n
+-- what is answered from the path p: a rule's result, and after a pass the path goes on
+pub record Walked (s t : List ℕ) (p : Path) (w : Result Table) (r : Result Path) : Type 0 where
+  pub result : result_of s t r ≡ w
+  pub onward : (q : Path) → r ≡ Ok q → Onward s t p q

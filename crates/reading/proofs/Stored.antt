@@ -9,13 +9,17 @@ use mathlib.Core.Path.{◌≡◌, refl, sym, ap, ◌∙◌, subst}
 use borrow.Author.Tests.{ltb-true, ltb-false}
 use lib.Dec.{ltb}
 use lib.ListN.{length, drop}
-use Rattle.listing.specs.declared.Lexed.{Lexed}
 use Rattle.listing.specs.declared.Lexed.TheVariants.{Good, Malformed as NoForm, End as AtEnd}
-use Rattle.listing.specs.Forms.{line_at}
-use Rattle.listing.proofs.Places.{line-good, line-malformed, line-end, line-forth, line-here}
-use Rattle.listing.proofs.Lines.{line-past}
-use Rattle.rows.specs.Rows.{line_in as row_line, with_row, with_rows, HasRows}
-use Rattle.forms.specs.Stores.{after, with_lexed, Stores}
+use Rattle.std.specs.Prelude.{Option, Some, None, option_map}
+use Rattle.text.specs.declared.Cursor.{Cursor}
+use Rattle.text.specs.Text.{Got, got, failed, read as read_from}
+use Rattle.listing.specs.Forms.{line, next_of, lexed, line_at}
+use Rattle.rows.specs.declared.Words.{Words}
+use Rattle.lines.proofs.Located.{row_and_rest}
+use lib.ListN.{drop_of_length-le}
+use lib.Seq.{drop-cons}
+use Rattle.listing.proofs.Places.{line-good, line-malformed, line-end}
+use Rattle.rows.specs.Rows.{line_in as row_line, row_of, with_row, with_rows, HasRows}
 use Rattle.rows.proofs.Laws.{rows-length, rows-line}
 use Rattle.tree.specs.declared.Lines.{Lines}
 use Rattle.reader.specs.Ast.{Line, Contract, Next, found, malformed, ended, next_line}
@@ -26,6 +30,50 @@ use Rattle.reader.specs.Spells.{Reached, start, step, nth, line_in, lines_of}
 use Rattle.tree.specs.Table.{Asked, Found, Malformed, End, asked, standing, Holds}
 use Rattle.reading.specs.Held.{Stored}
 use Rattle.reader.proofs.Spelling.{Whole, nth-next, reached-nth, reached-few, lists, listing-spells}
+
+-- past the end
+past : (s : List ℕ) (n : ℕ) → length s ≤ n → line_at s n ≡ AtEnd
+unfolding line_at lexed next_line
+past s n h = rw (line_at, next_line, drop_of_length-le s h) refl
+
+-- a line and its row, read at the cursor c
+pub record LineRead (c : Cursor) (row : Words) (d : Cursor) : Type 0 where
+  pub line : Line
+  pub row_is : row ≡ row_of line
+  pub stands : line_at c.listing.now c.at ≡ Good line d.at
+  pub cursor : d ≡ record c { at = d.at }
+
+-- what stands at a cursor before the end, from what the code read there
+module _ (c : Cursor) (h : c.at < length c.listing.now) where
+  stands_as : line_at c.listing.now c.at ≡ lexed (next_of (line c.at (drop c.at c.listing.now)))
+  unfolding line_at next_line
+  stands_as = rw (line_at, drop-cons c.listing.now c.at 0 h, next_line) refl
+
+  pub line-read : {row : Words} {d : Cursor} → option_map row_and_rest (read_from line c) ≡ Some (row, d) → LineRead c row d
+  unfolding read_from next_of lexed
+  line-read {row} {d} e = go (line c.at (drop c.at c.listing.now)) refl
+    where
+      go : (x : Got Line) → line c.at (drop c.at c.listing.now) ≡ x → LineRead c row d
+      go (got l n t) q =
+          let f : ◌≡◌ {A = Option (Words × Cursor)} (Some (row_of l, record c { at = n })) (Some (row, d)) = rw (read_from, q) at e in
+          let pair : ◌≡◌ {A = Words × Cursor} (row_of l, record c { at = n }) (row, d) = cc in
+          let cursor : record c { at = n } ≡ d = ap (λ p. p.1) pair in
+          let place : n ≡ d.at = ap (λ x. x.at) cursor in
+          record {
+            line = l;
+            row_is = sym (ap (λ p. p.0) pair);
+            stands = stands_as ∙ ap (λ x. lexed (next_of x)) q ∙ ap (Good l) place;
+            cursor = sym cursor ∙ ap (λ k. record c { at = k }) place;
+          }
+      go failed q = absurd (let z : ◌≡◌ {A = Option (Words × Cursor)} None (Some (row, d)) = rw (read_from, q) at e in let o : ◌≡◌ {A = ℕ} 0 1 = cc in omega arith)
+
+  pub line-none : option_map row_and_rest (read_from line c) ≡ None → line_at c.listing.now c.at ≡ NoForm
+  unfolding read_from next_of lexed
+  line-none e = go (line c.at (drop c.at c.listing.now)) refl
+    where
+      go : (x : Got Line) → line c.at (drop c.at c.listing.now) ≡ x → line_at c.listing.now c.at ≡ NoForm
+      go (got l n t) q = absurd (let z : ◌≡◌ {A = Option (Words × Cursor)} (Some (row_of l, record c { at = n })) None = rw (read_from, q) at e in let o : ◌≡◌ {A = ℕ} 0 1 = cc in omega arith)
+      go failed q = stands_as ∙ ap (λ x. lexed (next_of x)) q
 
 -- the first count lines are stored, and the next one stands at a position
 pub record Storing (s w t : List ℕ) (count at : ℕ) : Type 0 where
@@ -65,27 +113,16 @@ module _ (s w t : List ℕ) (count at : ℕ) (h : Storing s w t count at) where
       latest k i (inr a) = subst (λ k. standing (nth k 0 s) ≡ Found (lines_of s k)) (sym a) (ap standing (next-line l m e) ∙ ap Found (sym (ap line_in (next-line l m e))))
 
   -- the next line was stored, if there is one
-  pub storing-more : {r : List ℕ} {n : ℕ} → Stores (line_at s at) count t r n → (n ≡ 0 → ⊥) → Storing s w r (count + 1) n
-  unfolding after with_lexed
-  storing-more {r} {n} x more = go (line_at s at) refl
-    where
-      go : (y : Lexed) → line_at s at ≡ y → Storing s w r (count + 1) n
-      go (Good l m) e = subst (λ m. Storing s w r (count + 1) m) (sym (x.next ∙ ap after e)) (line-more l m e r (x.table ∙ ap (with_lexed t count) e))
-      go NoForm e = absurd (more (x.next ∙ ap after e))
-      go AtEnd e = absurd (more (x.next ∙ ap after e))
+  pub storing-more : {l : Line} {m : ℕ} → line_at s at ≡ Good l m → {r : List ℕ} → r ≡ with_row t count l → Storing s w r (count + 1) m
+  storing-more {l} {m} e {r} q = line-more l m e r q
 
-  pub stored-malformed : at < length s → {r : List ℕ} {n : ℕ} → Stores (line_at s at) count t r n → n ≡ 0 → count ≤ suc max_lines → Stored s w r (record { count = count; ended = false })
-  unfolding after with_lexed standing
-  stored-malformed i {r} {n} x q f = go (line_at s at) refl
-    where
-      go : (y : Lexed) → line_at s at ≡ y → Stored s w r (record { count = count; ended = false })
-      go (Good l m) e = absurd (omega (arith, line-forth s at l m e, x.next ∙ ap after e))
-      go NoForm e = record { rows = x.table ∙ ap (with_lexed t count) e ∙ h.rows; few = f; found = h.found; after = λ i. ap standing (h.here ∙ line-malformed s at e) }
-      go AtEnd e = absurd (line-here s at i e)
+  pub stored-malformed : line_at s at ≡ NoForm → count ≤ suc max_lines → Stored s w t (record { count = count; ended = false })
+  unfolding standing
+  stored-malformed e f = record { rows = h.rows; few = f; found = h.found; after = λ i. ap standing (h.here ∙ line-malformed s at e) }
 
   pub stored-end : length s ≤ at → count ≤ suc max_lines → Stored s w t (record { count = count; ended = true })
   unfolding standing
-  stored-end e f = record { rows = h.rows; few = f; found = h.found; after = λ i. ap standing (h.here ∙ line-end s at (sym (line-past s at e))) }
+  stored-end e f = record { rows = h.rows; few = f; found = h.found; after = λ i. ap standing (h.here ∙ line-end s at (past s at e)) }
 
   pub stored-full : suc max_lines ≤ count → count ≤ suc max_lines → Stored s w t (record { count = count; ended = false })
   stored-full g f = record { rows = h.rows; few = f; found = h.found; after = λ i. absurd (omega arith) }

@@ -4,7 +4,9 @@ ghost use Rattle.rows.specs.Work.{work_words};
 ghost use Rattle.reader.specs.Ceilings.{max_bytes};
 ghost use Rattle.reading.specs.Held.{Stored};
 
-use lines::store_line;
+use lines::read_line;
+use rows::store_row;
+use text::Cursor;
 use tree::Lines;
 
 // One row more than a listing may have lines, so that the line after the last can still be asked for.
@@ -14,24 +16,22 @@ pub fn store_lines(listing: &[u8], work: &mut [u32]) -> Lines
     requires { (length listing.now ≤ max_bytes) × (work_words ≤ length work.old) }
     ensures { Stored listing.now work.old work.new result }
 {
-    let mut at: usize = 0;
-    let mut count: usize = 0;
-    while count < MAX_ROWS {
-        if listing.len() <= at {
+    let mut c = Cursor { listing, at: 0 };
+    for count in 0..MAX_ROWS {
+        if c.at >= listing.len() {
             return Lines { count, ended: true };
         }
-        let next = store_line(listing, at, work, count);
-        if next == 0 {
+        let Some((row, next)) = read_line(c) else {
             return Lines {
                 count,
                 ended: false,
             };
-        }
-        at = next;
-        count += 1;
+        };
+        store_row(work, count, row);
+        c = next;
     }
     Lines {
-        count,
+        count: MAX_ROWS,
         ended: false,
     }
 }

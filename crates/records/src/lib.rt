@@ -13,7 +13,6 @@ ghost use Rattle.records.specs.Records.{records_input, records_left, records_lon
 ghost use Rattle.records.specs.Wrong.{wrong_in};
 
 use ast::CompileError;
-use ast::numbers::error_number;
 use std::alloc::Global;
 use std::error::Error;
 use std::io::Read;
@@ -235,7 +234,7 @@ impl Refusal {
     pub fn number(self) -> u32
         ensures { result ≡ number self.0.kind }
     {
-        error_number(self.0.kind)
+        self.0.kind.into()
     }
 }
 

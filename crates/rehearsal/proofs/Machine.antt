@@ -9,13 +9,14 @@ use mathlib.Core.Path.{◌≡◌, refl, sym, ◌∙◌, ap, ap₂, subst}
 use lib.Dec.{ltb}
 use lib.ListN.{length, drop, get_elem?, length-append}
 use borrow.Author.Tests.{ltb-true, ltb-false, eqb-true, eq-eqb}
+use Rattle.std.proofs.lemmas.Bool.{and_parts}
 use Rattle.ast.specs.declared.CompileError.{CompileError}
 use Rattle.ast.specs.Tree.{StackParam}
 use Rattle.ast.specs.Numbers.{type_number}
 use Rattle.text.specs.Text.{part}
-use Rattle.rules.proofs.Basics.{true≢false', and-true, same_true, same_refl}
+use Rattle.rules.proofs.Basics.{true≢false', same_true, same_refl}
 use Rattle.rows.specs.Work.{work_words}
-use Rattle.names.proofs.Laws.{and-true as and-all}
+use mathlib.Core.Bool.{and-true as and-all}
 use Rattle.declarations.proofs.Looking.{element-map}
 use Rattle.reporting.specs.Text.{WitnessItem, item_of}
 use Rattle.examiner.specs.Name.{item_at, name_of, place_or}
@@ -31,7 +32,7 @@ use Rattle.rehearsal.specs.Calls.{Call, kept, said_by, called, sayings, items_af
 same-items : (x y : WitnessItem) → same_item x y ≡ true → x ≡ y
 unfolding same_item
 same-items x y h =
-    let p = and-true _ _ h in
+    let p = and_parts _ _ h in
     let n = same_true x.name y.name p.0 in
     let t = eqb-true x.ty y.ty p.1 in
     ap₂ (λ n t. record { name = n; ty = t }) n t
@@ -42,7 +43,7 @@ unfolding begins next
 ended-all [] [] b h = refl
 ended-all [] (x ∷ xs) b h = absurd (true≢false' b refl)
 ended-all (y ∷ lines) [] b h = let z : ◌≡◌ {A = ℕ} 0 1 = cc in absurd (omega arith)
-ended-all (y ∷ lines) (x ∷ xs) b h = let p = and-true (same_item x y) (begins xs lines) b in ap₂ ◌∷◌ (same-items x y p.0) (ended-all lines xs p.1 h)
+ended-all (y ∷ lines) (x ∷ xs) b h = let p = and_parts (same_item x y) (begins xs lines) b in ap₂ ◌∷◌ (same-items x y p.0) (ended-all lines xs p.1 h)
 
 all-ended : (lines : List WitnessItem) → next lines lines ≡ ended
 unfolding next
@@ -54,7 +55,7 @@ unfolding begins
 begins-last [] lines h = refl
 begins-last (x ∷ []) lines h = refl
 begins-last (x ∷ z ∷ xs) [] h = absurd (true≢false' h refl)
-begins-last (x ∷ z ∷ xs) (y ∷ lines) h = let p = and-true (same_item x y) (begins (z ∷ xs) lines) h in rw p.0 (begins-last (z ∷ xs) lines p.1)
+begins-last (x ∷ z ∷ xs) (y ∷ lines) h = let p = and_parts (same_item x y) (begins (z ∷ xs) lines) h in rw p.0 (begins-last (z ∷ xs) lines p.1)
 
 length_last : {A : Type 0} (xs : List A) → length (drop_last xs) ≡ length xs - 1
 length_last [] = refl
@@ -178,7 +179,7 @@ unfolding begins is_at
 lay_at [] [] x h = refl
 lay_at [] (y ∷ lines) x h = and-all (same_item x y)
 lay_at (z ∷ xs) [] x h = absurd (true≢false' h refl)
-lay_at (z ∷ xs) (y ∷ lines) x h = let p = and-true (same_item z y) (begins xs lines) h in rw p.0 (lay_at xs lines x p.1)
+lay_at (z ∷ xs) (y ∷ lines) x h = let p = and_parts (same_item z y) (begins xs lines) h in rw p.0 (lay_at xs lines x p.1)
 
 due-at : (x : WitnessItem) (o : Option StackParam) → is_due x o ≡ is_at x (Option.map item_of o)
 unfolding is_due is_at

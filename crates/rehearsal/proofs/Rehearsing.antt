@@ -9,9 +9,8 @@ use borrow.Author.Tests.{ltb-true, ltb-false}
 use lib.Dec.{ltb}
 use lib.ListN.{length, get_or, get_elem?}
 use Rattle.ast.specs.declared.CompileError.{CompileError}
-use Rattle.ast.specs.declared.Checked.TheVariants.{Ok}
 use Rattle.ast.specs.Tree.{Name, StackParam, Declaration, Contract, from_top}
-use Rattle.rules.specs.Result.{Result, ok, err, answer}
+use Rattle.rules.specs.Result.{Result, Checked, answer}
 use Rattle.rules.specs.Paths.{Path, paths}
 use Rattle.rules.specs.Table.{Table, params}
 use Rattle.rules.specs.Analyze.{Analysis, analyze}
@@ -21,27 +20,18 @@ use Rattle.rules.proofs.Theorem.{check as check_tree}
 use Rattle.rules.proofs.Flowing.{count-paths}
 use Rattle.rules.proofs.Demand3.{accepted-in-order, accepted-finals}
 use Rattle.rows.specs.Rows.{line_in}
-use Rattle.rows.specs.Work.{cleared}
-use Rattle.reading.specs.Held.{ListingRead}
 use Rattle.std.specs.Prelude.{Ok, Err}
-use Rattle.reading.specs.Held.{Spelled, listing_read, work_read}
 use Rattle.reader.specs.Ceilings.{max_bytes}
 use Rattle.reader.specs.Spells.{SpellsContract}
 use Rattle.reporting.specs.Text.{WitnessItem}
 use Rattle.names.specs.declared.Item.{Item}
 use Rattle.names.specs.Items.{Inside}
 use Rattle.declarations.specs.Noted.{Declares, item_at as item_from}
+use Rattle.declarations.specs.Items.{ContractAt}
 use Rattle.declarations.proofs.Declaring.{declared-as}
 use Rattle.declarations.proofs.Looking.{item-inside, item-declared}
-use Rattle.verdicts.specs.declared.Verdict.{Verdict}
-use Rattle.verdicts.specs.Verdicts.{verdict}
-use Rattle.examiner.specs.Check.{examine, check}
-use Rattle.examiner.specs.Lent.{work_after}
+use Rattle.examiner.specs.Check.{examine}
 use Rattle.examiner.specs.Name.{items, item_at, place_or, name_of}
-use Rattle.examiner.proofs.Demand3.{examined}
-use Rattle.examiner.proofs.Reporting.{verdict-refused}
-use Rattle.examiner.proofs.Checking.{check-refused, work-refused, work-read, rows-enough, may-check}
-use Rattle.examiner.proofs.Naming.{listing-declares}
 use Rattle.turns.specs.declared.Rehearsal.{Rehearsal}
 use Rattle.turns.specs.declared.Rehearsed.{Rehearsed}
 use Rattle.turns.specs.declared.Rehearsed.TheVariants.{Due, Refused}
@@ -49,7 +39,7 @@ use Rattle.turns.specs.declared.Turn.{Turn}
 use Rattle.turns.specs.declared.Turn.TheVariants.{Open, Lay, TakeBack}
 use Rattle.turns.specs.State.{beginning, onward, lowered, DueInside}
 use Rattle.rehearsal.specs.Rehearse.{shown_of, shown, on_table, on_tables, on_path, is_due, lay_on}
-use Rattle.turns.specs.Turns.{param_of, due_of, due_in, is_item, lay_in, turn_in, path_verdict, first, turn_by, tests}
+use Rattle.turns.specs.Turns.{param_of, due_of, due_in, is_item, lay_in, turn_in, check_path, turn_by, tests}
 use Rattle.rehearsal.specs.Acts.{act, turned}
 use Rattle.rehearsal.proofs.Tables.{params-final}
 
@@ -104,27 +94,27 @@ finals-some (d ∷ ds) (p ∷ ps) zero e h = (final (from_top d) (meets p), refl
 finals-some (d ∷ ds) (p ∷ ps) (suc n) e h = finals-some ds ps n (omega arith) (omega arith)
 
 module _ (c : Contract) (r : Rehearsal) (f : List StackParam → Rehearsed) {a : Rehearsed} (same : r.path < length c.declarations → a ≡ f (from_top (declaration_of c r.path))) where
-  on-accepted : check_tree c ≡ Ok → turn_by (path_verdict (length c.declarations) r.path) a ≡ on_table f (get_elem? (finals c) r.path)
-  unfolding turn_by path_verdict on_table
+  on-accepted : check_tree c ≡ Ok tt → turn_by (check_path (length c.declarations) r.path) a ≡ on_table f (get_elem? (finals c) r.path)
+  unfolding turn_by check_path on_table
   on-accepted h = go (ltb r.path (length c.declarations)) refl
     where
-      go : (b : Bool) → ltb r.path (length c.declarations) ≡ b → turn_by (path_verdict (length c.declarations) r.path) a ≡ on_table f (get_elem? (finals c) r.path)
+      go : (b : Bool) → ltb r.path (length c.declarations) ≡ b → turn_by (check_path (length c.declarations) r.path) a ≡ on_table f (get_elem? (finals c) r.path)
       go true e =
           let lt = ltb-true r.path (length c.declarations) e in
           let k = finals-some c.declarations (paths c.block) r.path ((accepted-in-order c h).0.counts ∙ count-paths c.block) lt in
-          rw (e, path_verdict) (same lt ∙ sym (ap (on_table f) k.1 ∙ ap f k.2))
-      go false e = rw (e, path_verdict) (sym (ap (on_table f) (finals-none c.declarations (paths c.block) r.path (ltb-false r.path (length c.declarations) e))))
+          rw (e, check_path) (same lt ∙ sym (ap (on_table f) k.1 ∙ ap f k.2))
+      go false e = rw (e, check_path) (sym (ap (on_table f) (finals-none c.declarations (paths c.block) r.path (ltb-false r.path (length c.declarations) e))))
 
   -- any contract
-  on-analyzed : turn_by (tests (verdict (analyze c)) (length c.declarations) r) a ≡ on_tables r.path f (analyze c)
-  unfolding turn_by first on_tables verdict answer check_tree
+  on-analyzed : turn_by (tests (answer (analyze c)) (length c.declarations) r) a ≡ on_tables r.path f (analyze c)
+  unfolding turn_by on_tables answer check_tree
   on-analyzed = go (analyze c) refl
     where
-      go : (w : Result Analysis) → analyze c ≡ w → turn_by (tests (verdict (analyze c)) (length c.declarations) r) a ≡ on_tables r.path f (analyze c)
-      go (err x) e = rw e
-      go (ok x) e =
-          let h : check_tree c ≡ Ok = ap answer e in
-          ap (λ w. turn_by (tests (verdict w) (length c.declarations) r) a) e ∙ on-accepted h ∙ sym (ap (on_tables r.path f) (accepted-finals c h))
+      go : (w : Result Analysis) → analyze c ≡ w → turn_by (tests (answer (analyze c)) (length c.declarations) r) a ≡ on_tables r.path f (analyze c)
+      go (Err x) e = rw e
+      go (Ok x) e =
+          let h : check_tree c ≡ Ok tt = ap answer e in
+          ap (λ w. turn_by (tests (answer w) (length c.declarations) r) a) e ∙ on-accepted h ∙ sym (ap (on_tables r.path f) (accepted-finals c h))
 
 -- ---- the place of an item due lies in the listing
 
@@ -153,35 +143,25 @@ module _ (s : List ℕ) (ps : List (List Item)) (short : length s ≤ max_bytes)
       go true e = rw (e, lay_in) (due-inside (onward r.path (suc r.due)))
       go false e = rw (e, lay_in) (refused-inside s _)
 
-by-inside : (s : List ℕ) (v : Verdict) (a : Rehearsed) → DueInside s a → DueInside s (turn_by v a)
+by-inside : (s : List ℕ) (v : Checked) (a : Rehearsed) → DueInside s a → DueInside s (turn_by v a)
 unfolding turn_by
-by-inside s (Verdict.Refused x) a h = refused-inside s x
-by-inside s Verdict.Accepted a h = h
+by-inside s (Err x) a h = refused-inside s x
+by-inside s (Ok _) a h = h
 
--- ---- what a turn answers and leaves
+-- ---- what a turn answers
 
--- what is promised of the answer a and of work at exit u
-abbrev pub Promised : List ℕ → List ℕ → Rehearsal → Turn → Name → Rehearsed → List ℕ → Type 0
-Promised s w r turn x a u = (a ≡ turned s (length w) r turn x) × ((u ≡ work_after w) × DueInside s a)
+module _ (s : List ℕ) (words : ℕ) (r : Rehearsal) (turn : Turn) (name : Name) where
+  pub refuses : {x : CompileError} → examine s words ≡ Err x → Refused x ≡ turned s words r turn name
+  unfolding on_path on_tables
+  refuses is = sym (ap (on_tables r.path (act s r turn name)) is)
 
-module _ (s w t : List ℕ) (r : Rehearsal) (turn : Turn) (name : Name) {y : ListingRead} (answered : y ≡ listing_read s (length w)) (held : t ≡ work_read s w) where
-  pub refuses : (x : CompileError) → y ≡ Err x → Promised s w r turn name (Refused x) t
-  unfolding on_path on_tables check
-  refuses x e =
-      let h = sym answered ∙ e in
-      (sym (ap (on_tables r.path (act s r turn name)) (verdict-refused (examine s (length w)) x (check-refused s x (length w) h))), (held ∙ work-refused s x w h, refused-inside s x))
-
-  module _ (n : ℕ) (e : y ≡ Ok n) (h : Spelled s t n) where
-    pub turns : (a : Rehearsed) (u : List ℕ) → ((c : Contract) (ps : List (List Item)) → SpellsContract (line_in t) s c n → Declares t ps → a ≡ turn_by (tests (verdict (analyze c)) (length c.declarations) r) (turn_in s ps r turn name)) → u ≡ cleared t → Promised s w r turn name a u
+  module _ {t : List ℕ} {n : ℕ} (st : ContractAt s t n) (c : Contract) (sp : SpellsContract (line_in t) s c n) (d : Declares t (items s)) where
+    pub turns : examine s words ≡ analyze c → turn_by (tests (answer (analyze c)) (length c.declarations) r) (turn_in s (items s) r turn name) ≡ turned s words r turn name
     unfolding on_path item_at
-    turns a u f g =
-        let enough = rows-enough s (length w) n (sym answered ∙ e) in
-        let st = (may-check s w t answered held n e h).0 in
-        let d = listing-declares s t n h in
-        let c = h.contract in
-        let b = f c (items s) h.spells d in
-        let few = (declared-as st refl c h.spells).count in
-        let same : r.path < length c.declarations → turn_in s (items s) r turn name ≡ act s r turn name (from_top (declaration_of c r.path)) = λ lt. turn-same s (from_top (declaration_of c r.path)) r turn name (λ k. item-declared st refl d c h.spells r.path k (omega (arith, few, lt))) in (
-          b ∙ on-analyzed c r (act s r turn name) same ∙ sym (ap (on_tables r.path (act s r turn name)) (examined s (length w) c enough (h.source, h.reads))),
-          (g ∙ work-read s w t n h enough held, subst (DueInside s) (sym b) (by-inside s (tests (verdict (analyze c)) (length c.declarations) r) (turn_in s (items s) r turn name) (turn_inside s (items s) st.rows.short (λ path k x q. item-inside st refl d path k q) r turn name))),
-        )
+    turns is =
+        let few = (declared-as st refl c sp).count in
+        let same : r.path < length c.declarations → turn_in s (items s) r turn name ≡ act s r turn name (from_top (declaration_of c r.path)) = λ lt. turn-same s (from_top (declaration_of c r.path)) r turn name (λ k. item-declared st refl d c sp r.path k (omega (arith, few, lt))) in
+        on-analyzed c r (act s r turn name) same ∙ sym (ap (on_tables r.path (act s r turn name)) is)
+
+    pub turned-inside : (v : Checked) → DueInside s (turn_by v (turn_in s (items s) r turn name))
+    turned-inside v = by-inside s v (turn_in s (items s) r turn name) (turn_inside s (items s) st.rows.short (λ path k x q. item-inside st refl d path k q) r turn name)

@@ -7,9 +7,9 @@ use mathlib.Core.Option.{some}
 use mathlib.Core.Path.{◌≡◌, refl, sym, ◌∙◌, ap, ap₂, subst}
 use lib.Dec.{ltb}
 use lib.ListN.{length, drop, get_elem?}
+use Rattle.std.specs.Prelude.{Ok}
 use Rattle.ast.specs.declared.ErrorKind.TheVariants.{WorkTooShort}
 use Rattle.ast.specs.Tree.{StackParam, unplaced, fault}
-use Rattle.rules.specs.Result.{ok}
 use Rattle.rules.specs.Table.{Table, params}
 use Rattle.rules.specs.Analyze.{Analysis}
 use Rattle.rows.specs.Work.{work_words}
@@ -28,7 +28,7 @@ use Rattle.rehearsal.proofs.Machine.{Stands, Alike, shown-alike, lay-alike, back
 use Rattle.rehearsal.proofs.Tables.{OnTable, opens-on, lines_are, named, short, same-found, enough}
 
 -- an operation on a path that is there, with work enough
-on-path : (s : List ℕ) (words path : ℕ) (a : Analysis) (t : Table) (f : List StackParam → Rehearsed) → examine s words ≡ ok a → get_elem? a.tables path ≡ some t → on_path s words path f ≡ f (params t)
+on-path : (s : List ℕ) (words path : ℕ) (a : Analysis) (t : Table) (f : List StackParam → Rehearsed) → examine s words ≡ Ok a → get_elem? a.tables path ≡ some t → on_path s words path f ≡ f (params t)
 unfolding on_path on_tables on_table
 on-path s words path a t f e k = ap (on_tables path f) e ∙ ap (on_table f) k
 
@@ -55,7 +55,7 @@ module _ (s : List ℕ) (words path : ℕ) (o : OnTable s words path) where
       let z : beginning s ≡ beginning s + 0 = omega arith in
       subst (λ a. Goes r a (move lines [])) (sym (on-path s words path o.found o.table (shown s (onward path (beginning s))) o.examined o.stands ∙ ap (λ n. shown s (onward path n) (params o.table)) z)) (shown-alike s path (params o.table) (beginning s) (named s words path o) r [] refl)
 
-  asked-alike : (w : ℕ) (xs : List WitnessItem) (a : Ask) → examine s w ≡ ok o.found → begins xs lines ≡ true → Goes (counted xs) (answer_to s w (counted xs) a) (asked lines xs a)
+  asked-alike : (w : ℕ) (xs : List WitnessItem) (a : Ask) → examine s w ≡ Ok o.found → begins xs lines ≡ true → Goes (counted xs) (answer_to s w (counted xs) a) (asked lines xs a)
   unfolding answer_to laid taken_back
   asked-alike w xs (lay x) e h = subst (λ a. Goes (counted xs) a (asked lines xs (lay x))) (sym (on-path s w path o.found o.table (lay_on s (counted xs) x) e o.stands)) (lay-alike s path (params o.table) (beginning s) (named s words path o) xs x h)
   asked-alike w xs take_back e h = subst (λ a. Goes (counted xs) a (asked lines xs take_back)) (sym (on-path s w path o.found o.table (shown s (onward path (lowered (beginning s) (beginning s + length xs)))) e o.stands)) (back-alike s path (params o.table) (beginning s) (named s words path o) xs h)

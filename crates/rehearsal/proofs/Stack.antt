@@ -3,20 +3,19 @@ use Prim.Native.Nat.{ℕ, ◌<◌}
 use native.Mathlib.Omega.{arith}
 use mathlib.Core.List.{List, map}
 use mathlib.Core.Path.{◌≡◌, sym, ◌∙◌, ap}
+use Rattle.std.proofs.lemmas.Simd.{map-map}
 use Rattle.ast.specs.Tree.{StackParam, Contract}
 use Rattle.rules.specs.Paths.{count}
 use Rattle.rules.specs.Table.{params}
 use Rattle.rules.specs.Stack.{stack, declaration_of}
-use Rattle.rules.proofs.Basics.{map-map}
 use Rattle.rules.proofs.State.{idents}
 use Rattle.rules.proofs.Flowing.{count-paths}
 use Rattle.rules.proofs.Demand3.{accepted-in-order}
 use Rattle.reader.proofs.Complete.{readable-reads}
 use Rattle.rules.proofs.Theorem.{check as check_tree}
-use Rattle.rules.specs.Analyze.{analyze}
-use Rattle.verdicts.specs.Verdicts.{verdict}
 use Rattle.examiner.specs.Check.{check}
-use Rattle.examiner.proofs.Demand3.{Holds, verdict-accepts, accepts, examined}
+use Rattle.rules.specs.Result.{answer}
+use Rattle.examiner.proofs.Demand3.{Holds, accepts, examined}
 use Rattle.reporting.specs.Text.{item_of}
 use Rattle.rehearsal.specs.Items.{report_lines}
 use Rattle.turns.specs.State.{beginning}
@@ -45,5 +44,5 @@ ends-on-stack s words path r calls c m l h e =
     let i : path < count c.block = omega (arith, path-below s words path o c k, count-paths c.block) in (
       ap (map (λ x. x.name)) ((ends-exactly s words path r calls h).0 e) ∙ names-stack s words path c k o,
       i,
-      (accepted-in-order c ((verdict-accepts (analyze c)).0 (sym (ap verdict (examined s words c w k)) ∙ a))).1 path i,
+      (accepted-in-order c (sym (ap answer (examined s words c w k)) ∙ a)).1 path i,
     )

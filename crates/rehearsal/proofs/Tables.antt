@@ -7,20 +7,20 @@ use mathlib.Core.Option.{Option, some, none}
 use mathlib.Core.Path.{◌≡◌, refl, sym, ◌∙◌, ap, subst}
 use lib.Dec.{ltb}
 use lib.ListN.{drop, length, get_or, get_elem?}
+use Rattle.std.specs.Prelude.{Ok, Err}
 use Rattle.ast.specs.declared.ErrorKind.TheVariants.{WorkTooShort}
 use Rattle.ast.specs.Tree.{StackParam, Declaration, Contract, from_top, unplaced, fault}
 use Rattle.text.specs.declared.Place.{Place}
+use Rattle.rules.proofs.Basics.{Err≢Ok, Ok-injective}
 use Rattle.text.specs.Text.{part}
-use Rattle.rules.specs.Result.{Result, ok, err}
+use Rattle.rules.specs.Result.{Result, answer}
 use Rattle.rules.specs.Paths.{Path, paths}
 use Rattle.rules.specs.Table.{Table, params}
 use Rattle.rules.specs.Analyze.{Analysis}
 use Rattle.rules.specs.Stack.{Met, meets, declaration_of}
-use Rattle.rules.proofs.Basics.{err≢ok, ok_ok}
 use Rattle.rules.proofs.Takers.{final, final_all, finals}
 use Rattle.reader.specs.Reading.{read_listing}
 use Rattle.rows.specs.Work.{work_words}
-use Rattle.verdicts.specs.Verdicts.{verdict}
 use Rattle.examiner.specs.Check.{analyzed, examine, check}
 use Rattle.reporting.specs.Text.{item_of}
 use Rattle.examiner.specs.Name.{item_at, if_accepted, name_of, place_or, name, name_bytes}
@@ -64,24 +64,24 @@ finals-at (d ∷ ds) (p ∷ ps) (suc n) t h = let r = finals-at ds ps n t h in (
 pub record OnTable (s : List ℕ) (words path : ℕ) : Type 0 where
   pub found : Analysis
   pub table : Table
-  pub examined : examine s words ≡ ok found
+  pub examined : examine s words ≡ Ok found
   pub stands : get_elem? found.tables path ≡ some table
 
 pub opens-on : (s : List ℕ) (words path : ℕ) → Opens s words path → OnTable s words path
 unfolding opened on_path on_tables on_table
 opens-on s words path h = go (examine s words) refl
   where
-    at : (f : Analysis) → examine s words ≡ ok f → (o : Option Table) → get_elem? f.tables path ≡ o → OnTable s words path
+    at : (f : Analysis) → examine s words ≡ Ok f → (o : Option Table) → get_elem? f.tables path ≡ o → OnTable s words path
     at f e none k = let q : opened s words path ≡ Refused no_such_path = rw (e, opened, on_path, on_tables) (rw (k, on_table) refl) in absurd (subst Goes q h)
     at f e (some t) k = record { found = f; table = t; examined = e; stands = k }
 
     go : (w : Result Analysis) → examine s words ≡ w → OnTable s words path
-    go (err x) e = let q : opened s words path ≡ Refused x = rw (e, opened, on_path, on_tables) refl in absurd (subst Goes q h)
-    go (ok f) e = at f e (get_elem? f.tables path) refl
+    go (Err x) e = let q : opened s words path ≡ Refused x = rw (e, opened, on_path, on_tables) refl in absurd (subst Goes q h)
+    go (Ok f) e = at f e (get_elem? f.tables path) refl
 
-pub accepted-by : (s : List ℕ) (words : ℕ) (f : Analysis) → examine s words ≡ ok f → Accepted s words
-unfolding check verdict
-accepted-by s words f e = ap verdict e
+pub accepted-by : (s : List ℕ) (words : ℕ) (f : Analysis) → examine s words ≡ Ok f → Accepted s words
+unfolding check answer
+accepted-by s words f e = ap answer e
 
 module _ (s : List ℕ) (words path : ℕ) (o : OnTable s words path) where
   pub accepted : Accepted s words
@@ -94,7 +94,7 @@ module _ (s : List ℕ) (words path : ℕ) (o : OnTable s words path) where
 
   module _ (c : Contract) (k : Holds s c) where
     stands-final : get_elem? (finals c) path ≡ some o.table
-    stands-final = ap (λ f. get_elem? f.tables path) (ok_ok (sym (accepted-outcome s words c k accepted) ∙ o.examined)) ∙ o.stands
+    stands-final = ap (λ f. get_elem? f.tables path) (Ok-injective (sym (accepted-outcome s words c k accepted) ∙ o.examined)) ∙ o.stands
 
     -- its items are those that the path's declaration declares, from the top
     pub items-are : params o.table ≡ from_top (declaration_of c path)
@@ -129,22 +129,22 @@ named s words path o k p h =
 -- ---- other calls on the same listing
 
 -- too little work
-pub short : (s : List ℕ) (words : ℕ) → ltb words work_words ≡ true → examine s words ≡ err (fault WorkTooShort unplaced)
+pub short : (s : List ℕ) (words : ℕ) → ltb words work_words ≡ true → examine s words ≡ Err (fault WorkTooShort unplaced)
 unfolding examine
 short s words h = rw (h, examine) refl
 
 -- any other work: the same is found
-pub same-found : (s : List ℕ) (words w : ℕ) (f : Analysis) → examine s words ≡ ok f → ltb w work_words ≡ false → examine s w ≡ ok f
+pub same-found : (s : List ℕ) (words w : ℕ) (f : Analysis) → examine s words ≡ Ok f → ltb w work_words ≡ false → examine s w ≡ Ok f
 unfolding examine
 same-found s words w f e h = rw (h, examine) (go (ltb words work_words) refl)
   where
-    go : (b : Bool) → ltb words work_words ≡ b → analyzed (read_listing s) ≡ ok f
-    go true q = absurd (err≢ok (rw (q, examine) at e))
+    go : (b : Bool) → ltb words work_words ≡ b → analyzed (read_listing s) ≡ Ok f
+    go true q = absurd (Err≢Ok (rw (q, examine) at e))
     go false q = rw (q, examine) at e
 
-pub enough : (s : List ℕ) (words : ℕ) (f : Analysis) → examine s words ≡ ok f → ltb words work_words ≡ false
+pub enough : (s : List ℕ) (words : ℕ) (f : Analysis) → examine s words ≡ Ok f → ltb words work_words ≡ false
 enough s words f e = go (ltb words work_words) refl
   where
     go : (b : Bool) → ltb words work_words ≡ b → ltb words work_words ≡ false
-    go true q = absurd (err≢ok (sym (short s words q) ∙ e))
+    go true q = absurd (Err≢Ok (sym (short s words q) ∙ e))
     go false q = q

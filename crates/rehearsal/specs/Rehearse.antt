@@ -1,9 +1,9 @@
 -- Rehearsing a witness: open, lay and take back, on every listing, word count and rehearsal.
-use Rattle.std.specs.Prelude.{ℕ, suc, Bool, true, false, List}
+use Rattle.std.specs.Prelude.{ℕ, suc, Bool, true, false, List, Ok, Err}
 use Rattle.std.proofs.Math.Option.{Option, some, none}
 use Rattle.std.proofs.Math.ListN.{get_elem?}
 use Rattle.ast.specs.Tree.{StackParam}
-use Rattle.rules.specs.Result.{Result, ok, err}
+use Rattle.rules.specs.Result.{Result}
 use Rattle.rules.specs.Table.{Table, params}
 use Rattle.rules.specs.Analyze.{Analysis}
 use Rattle.reporting.specs.Text.{WitnessItem, item_of}
@@ -30,8 +30,8 @@ on_table f (some t) = f (params t)
 
 -- the tests of every operation: Check's answer, then 31
 unfoldable pub on_tables : ℕ → (List StackParam → Rehearsed) → Result Analysis → Rehearsed
-on_tables path f (err x) = Refused x
-on_tables path f (ok a) = on_table f (get_elem? a.tables path)
+on_tables path f (Err x) = Refused x
+on_tables path f (Ok a) = on_table f (get_elem? a.tables path)
 
 unfoldable pub on_path : List ℕ → ℕ → ℕ → (List StackParam → Rehearsed) → Rehearsed
 on_path s words path f = on_tables path f (examine s words)

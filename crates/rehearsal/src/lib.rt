@@ -10,37 +10,15 @@ ghost use Rattle.rules.specs.Analyze.{analyze as analyze_of};
 ghost use Rattle.names.specs.declared.Item.{Item};
 ghost use Rattle.declarations.specs.Items.{ContractAt};
 ghost use Rattle.declarations.specs.Noted.{Declares};
-ghost use Rattle.verdicts.specs.Verdicts.{verdict};
+ghost use Rattle.rules.specs.Result.{answer};
 ghost use Rattle.examiner.specs.Lent.{work_after};
 ghost use Rattle.turns.specs.State.{DueInside};
 ghost use Rattle.turns.specs.Turns.{turn_in, tests, turn_by};
 ghost use Rattle.rehearsal.specs.Rehearse.{opened, laid, taken_back};
 ghost use Rattle.rehearsal.specs.Acts.{turned};
 
-use declarations::declarations;
-use examiner::analyze_rows;
-use reading::read_listing;
+use examiner::{analyze_rows, examine};
 use turns::{Rehearsal, Rehearsed, Turn, turn_by};
-
-// A turn on the contract in n rows of work, which is analyzed first; work is cleared.
-fn turn_rows(
-    listing: &[u8],
-    work: &mut [u32],
-    n: usize,
-    r: Rehearsal,
-    turn: Turn,
-    name: &[u8],
-) -> Rehearsed
-    requires { ContractAt listing.now work.old n × (work_words ≤ length work.old) }
-    ensures value { (c : Contract) (ps : List (List Item)) → SpellsContract (line_in work.old) listing.now c n → Declares work.old ps → result ≡ turn_by (tests (verdict (analyze_of c)) (length c.declarations) r) (turn_in listing.now ps r turn name.now) }
-    ensures work_after { work.new ≡ cleared work.old }
-{
-    let d = declarations(listing, &work[..], n);
-    let answer = analyze_rows(listing, &work[..], n, d);
-    let x = turn_by(listing, &work[..], d, answer, r, turn, name);
-    rows::clear(work);
-    x
-}
 
 // A turn on a rehearsal of a listing: the three operations in one. Only Lay looks at the name.
 pub fn rehearse(
@@ -54,10 +32,17 @@ pub fn rehearse(
     ensures work_after { work.new ≡ work_after work.old }
     ensures due_inside { DueInside listing.now result }
 {
-    let read = read_listing(listing, work);
-    match read {
+    let turned = examine(
+        listing,
+        work,
+        &mut |rows, n, d| {
+            let answer = analyze_rows(rows, n, d);
+            turn_by(rows, d, answer, r, turn, name)
+        },
+    );
+    match turned {
         Err(x) => Rehearsed::Refused(x),
-        Ok(n) => turn_rows(listing, work, n, r, turn, name),
+        Ok(x) => x,
     }
 }
 

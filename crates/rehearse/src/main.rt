@@ -9,11 +9,10 @@
 // asks this program, and the gate runs it on stdin, which tools/rehearsal_vectors.py writes.
 #![tactic(auto)]
 
-use ast::numbers::type_number;
 use records::{FILLED, ReadError, Records, Refusal, wrong_words};
 use std::io::Read;
 use std::{fmt, io};
-use text::{COMMA, WordRead};
+use text::{COMMA, Cursor};
 use turns::{Rehearsal, Rehearsed};
 use words::read_word;
 
@@ -28,45 +27,26 @@ enum Call<'a> {
     Back(Rehearsal),
 }
 
-// The fields of a record that are left.
-#[derive(Clone, Copy)]
-struct Fields<'a>(&'a [u8]);
+// The rehearsal that a call hands back.
+fn read_rehearsal(c: Cursor) -> Option<(Rehearsal, Cursor)> {
+    let (path, c) = read_word(c)?;
+    let (due, c) = read_word(c)?;
+    Some((Rehearsal { path, due }, c))
+}
 
-impl<'a> Fields<'a> {
-    // A field that is a number.
-    fn word(self) -> Option<(u32, Fields<'a>)> {
-        let WordRead::Got(v, next) = read_word(self.0, 0) else {
-            return None;
-        };
-        Some((v, Fields(self.0.get(next..)?)))
-    }
-
-    // The rehearsal that a call hands back.
-    fn rehearsal(self) -> Option<(Rehearsal, Fields<'a>)> {
-        let (path, rest) = self.word()?;
-        let (due, rest) = rest.word()?;
-        Some((Rehearsal { path, due }, rest))
-    }
-
-    // A field that is all that is left.
-    fn name(self) -> Option<&'a [u8]> {
-        match self.0 {
-            [COMMA, name @ ..] => Some(name),
-            _ => None,
-        }
-    }
-
-    // Where nothing follows.
-    fn is_end(self) -> bool {
-        self.0.is_empty()
-    }
+// Where nothing follows.
+fn is_end(c: Cursor) -> bool {
+    c.at == c.listing.len()
 }
 
 impl<'a> Call<'a> {
     // The call that a record is, if it has its form.
     fn read(record: &'a [u8]) -> Option<Call<'a>> {
-        let (&kind, fields) = record.split_first()?;
-        let call = Fields(fields);
+        let kind = *record.first()?;
+        let call = Cursor {
+            listing: record,
+            at: 1,
+        };
         match kind {
             b'o' => Call::read_open(call),
             b'l' => Call::read_lay(call),
@@ -75,20 +55,21 @@ impl<'a> Call<'a> {
         }
     }
 
-    fn read_open(call: Fields<'a>) -> Option<Call<'a>> {
-        let (path, rest) = call.word()?;
-        rest.is_end().then_some(Call::Open(path))
+    fn read_open(call: Cursor<'a>) -> Option<Call<'a>> {
+        let (path, c) = read_word(call)?;
+        is_end(c).then_some(Call::Open(path))
     }
 
-    fn read_lay(call: Fields<'a>) -> Option<Call<'a>> {
-        let (rehearsal, rest) = call.rehearsal()?;
-        let (ty, rest) = rest.word()?;
-        Some(Call::Lay(rehearsal, ty, rest.name()?))
+    fn read_lay(call: Cursor<'a>) -> Option<Call<'a>> {
+        let (rehearsal, c) = read_rehearsal(call)?;
+        let (ty, c) = read_word(c)?;
+        let name = c.skip(COMMA)?;
+        Some(Call::Lay(rehearsal, ty, name.rest()))
     }
 
-    fn read_back(call: Fields<'a>) -> Option<Call<'a>> {
-        let (rehearsal, rest) = call.rehearsal()?;
-        rest.is_end().then_some(Call::Back(rehearsal))
+    fn read_back(call: Cursor<'a>) -> Option<Call<'a>> {
+        let (rehearsal, c) = read_rehearsal(call)?;
+        is_end(c).then_some(Call::Back(rehearsal))
     }
 
     fn answer(self, listing: &[u8], work: &mut [u32]) -> Answer {
@@ -108,7 +89,7 @@ impl fmt::Display for Answer {
     fn fmt<W: fmt::Write>(&self, f: &mut fmt::Formatter<W>) -> fmt::Result {
         match self.0 {
             Rehearsed::Due(name, ty, r) => {
-                let ty = type_number(ty);
+                let ty = u32::from(ty);
                 write!(
                     f,
                     "0,0,0,0,0 {},{} 1,{},{},{ty}",

@@ -6,20 +6,12 @@
 use records::{FILLED, ReadError, Records, Refusal, Tally, print_cut_short, wrong_words};
 use std::io;
 use std::io::Read;
-use verdicts::Verdict;
 
 // No listing of a record is longer.
 const LONGEST: usize = 32768;
 
 // The room for a report.
 const OUTPUT_BYTES: usize = 65536;
-
-fn refusal(verdict: Verdict) -> Option<Refusal> {
-    match verdict {
-        Verdict::Accepted => None,
-        Verdict::Refused(e) => Some(Refusal(e)),
-    }
-}
 
 // The report of a listing; how many words of work are wrong after it.
 fn print_report(rt: &(impl Print + AllocGlobal), listing: &[u8]) -> io::Result<usize> {
@@ -33,7 +25,7 @@ fn print_report(rt: &(impl Print + AllocGlobal), listing: &[u8]) -> io::Result<u
 
 fn examine(rt: &(impl Print + AllocGlobal), listing: &[u8], tally: &mut Tally) -> io::Result<()> {
     let mut work = [FILLED; 16400];
-    let refusal = refusal(examiner::check(listing, &mut work));
+    let refusal = examiner::check(listing, &mut work).err().map(Refusal);
     let number = refusal.map_or(0, Refusal::number);
     println!(rt; "{},{number}", tally.listings)?;
     let wrong = print_report(rt, listing)?;

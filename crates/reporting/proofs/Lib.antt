@@ -1,6 +1,6 @@
-pub mod Items
 pub mod Chains
 pub mod Loops
 pub mod WaitLines
+pub mod Lengths
 pub mod Spelled
-pub mod Measured
+pub mod Counted

@@ -1,48 +1,34 @@
--- A text that is put piece by piece.
-use Prim.Native.Nat.{ℕ, zero, suc, ◌+◌, ◌-◌, ◌*◌, ◌/◌, ◌%◌, ◌≤◌, ◌<◌}
-use native.Mathlib.Omega.{arith}
-use mathlib.Core.Bool.{Bool}
-use mathlib.Core.List.{List, [], ◌∷◌, ◌++◌, append_assoc, append-nil}
-use mathlib.Core.Path.{◌≡◌, refl, sym, ap, ◌∙◌}
-use lib.ListN.{length, get_or, drop}
-use lib.Seq.{drop-cons}
+-- What is left of a text that is put piece by piece.
+use Rattle.std.proofs.Common.{◌≡◌, refl, ap, ◌∙◌, List, [], ◌∷◌, ◌++◌, ℕ, zero, suc, ◌+◌, ◌-◌, ◌/◌, ◌%◌, ◌≤◌, ◌<◌, arith, length, get_or, map, take, drop, nat_eq}
+use Rattle.std.proofs.Math.Seq.{drop-cons}
+use Rattle.std.proofs.lemmas.List.{drop_all, length-map, length-take-le}
 use Rattle.rules.specs.Table.{Table}
 use Rattle.names.specs.Items.{item_in}
 use Rattle.paths.specs.declared.NamePlace.{NamePlace}
+use Rattle.paths.specs.declared.Path.{Path}
 use Rattle.paths.specs.Path.{taken_by, table_from, table_of, no_place}
 use Rattle.declarations.specs.declared.Declared.{Declared}
-use Rattle.tables.specs.State.{path_at, tables_from, tables_of}
-use Rattle.output.specs.Put.{Room, Wrote}
-use Rattle.output.proofs.Laws.{room_as, room-first, room_next, wrote_nothing, wrote-next}
+use Rattle.tables.specs.State.{path_at, tables_of, Ready}
+use Rattle.output.specs.Decimal.{decimal}
+use Rattle.reporting.specs.Fields.{number_fields, taken_if}
 use Rattle.reporting.specs.Text.{item_line, item_lines, path_line, path_lines}
-use Rattle.reporting.proofs.Chains.{wrote-under}
 
--- what is put so far, and what is left of the whole; `spent` bounds what is put
-pub record Putting (w : Bool) (out₀ : List ℕ) (at₀ : ℕ) (whole rest : List ℕ) (spent : ℕ) (out : List ℕ) (next : ℕ) : Type 0 where
-  pub done : List ℕ
-  pub split : done ++ rest ≡ whole
-  pub wrote : Wrote w out₀ at₀ done spent out next
+-- the field of the number at k, and those after it
+pub fields-next : (xs : List ℕ) (k : ℕ) → k < length xs → number_fields (drop k xs) ≡ (44 ∷ decimal (get_or xs k 0)) ++ number_fields (drop (k + 1) xs)
+fields-next xs k h = let e : k + 1 ≡ suc k = omega arith in rw (e, drop-cons xs k 0 h) refl
 
-pub putting-none : {w : Bool} {out : List ℕ} {at : ℕ} {whole rest : List ℕ} → rest ≡ whole → Putting w out at whole rest 0 out at
-putting-none {w} {out} {at} e = record { done = []; split = e; wrote = wrote_nothing w out at }
+pub fields-none : (xs : List ℕ) (k : ℕ) → length xs ≤ k → number_fields (drop k xs) ≡ []
+fields-none xs k h = ap number_fields (drop_all k xs h)
 
-module _ {w : Bool} {out₀ : List ℕ} {at₀ : ℕ} {whole rest : List ℕ} {spent : ℕ} {out : List ℕ} {next : ℕ} (p : Putting w out₀ at₀ whole rest spent out next) where
-  module _ (piece later : List ℕ) (e : rest ≡ piece ++ later) where
-    -- room for the next piece
-    pub putting-room : {total each : ℕ} → spent + each ≤ total → Room w out₀ at₀ whole total → Room w out next piece each
-    putting-room {total} {each} h room =
-        let all = room_as {n = spent + (each + 0)} (sym (ap (λ (l : List ℕ). p.done ++ l) (sym e) ∙ p.split)) (omega arith) room in
-        room-first later 0 (room_next {b = piece ++ later} all p.wrote)
-
-    pub putting-more : {each total : ℕ} {out' : List ℕ} {next' : ℕ} → spent + each ≤ total → Wrote w out next piece each out' next' → Putting w out₀ at₀ whole later total out' next'
-    putting-more h wrote = record {
-      done = p.done ++ piece;
-      split = append_assoc p.done piece later ∙ ap (λ (l : List ℕ). p.done ++ l) (sym e) ∙ p.split;
-      wrote = wrote-under refl h (wrote-next p.wrote wrote);
-    }
-
-  pub putting-end : {total : ℕ} → rest ≡ [] → spent ≤ total → Wrote w out₀ at₀ whole total out next
-  putting-end e h = wrote-under (sym (append-nil p.done) ∙ ap (λ (l : List ℕ). p.done ++ l) (sym e) ∙ p.split) h p.wrote
+-- an item is taken if its bit is 1
+taken-by : (x n : ℕ) → taken_by (x % 2) n ≡ taken_if (nat_eq (x % 2) 1) n
+unfolding taken_by
+taken-by x n = go (x % 2) (omega arith)
+  where
+    go : (b : ℕ) → b < 2 → taken_by b n ≡ taken_if (nat_eq b 1) n
+    go zero h = refl
+    go (suc zero) h = refl
+    go (suc (suc b)) h = absurd (omega arith)
 
 -- the items from position k on, x being the set of those taken
 abbrev pub items_left : List ℕ → List ℕ → List NamePlace → ℕ → ℕ → ℕ → List ℕ
@@ -53,13 +39,13 @@ module _ (s t : List ℕ) (qs : List NamePlace) (x count : ℕ) where
   items-all = let e : count - 0 ≡ count = omega arith in ap (λ n. item_lines 0 (table_from s t qs x n)) e
 
   module _ (k : ℕ) where
-    pub items-next : k < count → k < length qs → items_left s t qs x count k ≡ item_line k (record { param = item_in s t (get_or qs k no_place).row; taken = taken_by (x % 2) (get_or qs k no_place).line }) ++ items_left s t qs (x / 2) count (k + 1)
+    pub items-next : k < count → k < length qs → items_left s t qs x count k ≡ item_line k (record { param = item_in s t (get_or qs k no_place).row; taken = taken_if (nat_eq (x % 2) 1) (get_or qs k no_place).line }) ++ items_left s t qs (x / 2) count (k + 1)
     unfolding item_lines table_from
     items-next h i =
         let e : count - k ≡ suc (count - suc k) = omega arith in
         let f : suc k ≡ k + 1 = omega arith in
-        let first = item_line k (record { param = item_in s t (get_or qs k no_place).row; taken = taken_by (x % 2) (get_or qs k no_place).line }) in
-        let cut : items_left s t qs x count k ≡ first ++ items_left s t qs (x / 2) count (suc k) = rw (e, drop-cons qs k no_place i, item_lines, table_from) refl in
+        let first = item_line k (record { param = item_in s t (get_or qs k no_place).row; taken = taken_if (nat_eq (x % 2) 1) (get_or qs k no_place).line }) in
+        let cut : items_left s t qs x count k ≡ first ++ items_left s t qs (x / 2) count (suc k) = rw (e, drop-cons qs k no_place i, item_lines, table_from, ← taken-by x (get_or qs k no_place).line) refl in
         cut ∙ ap (λ j. first ++ items_left s t qs (x / 2) count j) f
 
     pub items-none : count ≤ k → items_left s t qs x count k ≡ []
@@ -70,35 +56,34 @@ module _ (s t : List ℕ) (qs : List NamePlace) (x count : ℕ) where
         go [] = refl
         go (q ∷ l) = refl
 
--- the paths from path p on
-abbrev pub paths_left : List ℕ → List ℕ → Declared → List (List NamePlace) → List ℕ → ℕ → List ℕ
-paths_left s t d rows taken p = path_lines p (tables_from s t d rows taken p (d.count - p))
+-- the first of some paths, and those after it
+lines-next : {A : Type 0} (f : A → Table) (xs : List A) (none : A) (p n : ℕ) → p < length xs → path_lines p (map f (take (suc n) (drop p xs))) ≡ path_line p (f (get_or xs p none)) ++ path_lines (suc p) (map f (take n (drop (suc p) xs)))
+unfolding path_lines
+lines-next f xs none p n i = ap (λ l. path_lines p (map f (take (suc n) l))) (drop-cons xs p none i)
 
-module _ (s t : List ℕ) (d : Declared) (rows : List (List NamePlace)) (taken : List ℕ) where
-  pub paths-all : paths_left s t d rows taken 0 ≡ path_lines 0 (tables_of s t d rows taken)
-  unfolding tables_of
-  paths-all = let e : d.count - 0 ≡ d.count = omega arith in ap (λ n. path_lines 0 (tables_from s t d rows taken 0 n)) e
+-- the paths from path p on
+abbrev pub paths_left : List ℕ → List ℕ → Declared → List Path → ℕ → List ℕ
+paths_left s t d paths p = path_lines p (map (table_of s t) (take (d.count - p) (drop p paths)))
+
+module _ (s t : List ℕ) (d : Declared) (paths : List Path) where
+  pub paths-all : paths_left s t d paths 0 ≡ path_lines 0 (tables_of s t d paths)
+  paths-all = let e : d.count - 0 ≡ d.count = omega arith in ap (λ n. path_lines 0 (map (table_of s t) (take n paths))) e
 
   module _ (p : ℕ) where
-    pub paths-next : p < d.count → paths_left s t d rows taken p ≡ path_line p (table_of s t (path_at d rows taken p)) ++ paths_left s t d rows taken (p + 1)
-    unfolding path_lines tables_from
-    paths-next h =
+    pub paths-next : p < d.count → p < length paths → paths_left s t d paths p ≡ path_line p (table_of s t (path_at paths p)) ++ paths_left s t d paths (p + 1)
+    paths-next h i =
         let e : d.count - p ≡ suc (d.count - suc p) = omega arith in
         let f : suc p ≡ p + 1 = omega arith in
-        let first = path_line p (table_of s t (path_at d rows taken p)) in
-        let cut : paths_left s t d rows taken p ≡ first ++ paths_left s t d rows taken (suc p) = rw (e, path_lines, tables_from) refl in
-        cut ∙ ap (λ q. first ++ paths_left s t d rows taken q) f
+        let first = path_line p (table_of s t (path_at paths p)) in
+        let cut : paths_left s t d paths p ≡ first ++ paths_left s t d paths (suc p) =
+        ap (λ n. path_lines p (map (table_of s t) (take n (drop p paths)))) e
+        ∙ lines-next (table_of s t) paths (record { places = []; count = 0; taken = 0 }) p (d.count - suc p) i in
+        cut ∙ ap (λ q. first ++ paths_left s t d paths q) f
 
-    pub paths-none : d.count ≤ p → paths_left s t d rows taken p ≡ []
-    unfolding path_lines tables_from
-    paths-none h = let e : d.count - p ≡ 0 = omega arith in ap (λ n. path_lines p (tables_from s t d rows taken p n)) e
-
-  tables-full : (p n : ℕ) → length (tables_from s t d rows taken p n) ≡ n
-  unfolding tables_from
-  tables-full p zero = refl
-  tables-full p (suc n) = ap suc (tables-full (suc p) n)
+    pub paths-none : d.count ≤ p → paths_left s t d paths p ≡ []
+    unfolding path_lines
+    paths-none h = let e : d.count - p ≡ 0 = omega arith in ap (λ n. path_lines p (map (table_of s t) (take n (drop p paths)))) e
 
   -- as many tables as declarations
-  pub tables-length : d.count ≡ length (tables_of s t d rows taken)
-  unfolding tables_of
-  tables-length = sym (tables-full 0 d.count)
+  pub tables-length : Ready s t d paths → length (tables_of s t d paths) ≡ d.count
+  tables-length ready = length-map (take d.count paths) (table_of s t) ∙ length-take-le d.count paths (omega (arith, ready.few, ready.full))

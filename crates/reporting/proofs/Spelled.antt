@@ -3,16 +3,17 @@ use Prim.Native.Nat.{ℕ, suc, ◌-◌, ◌≤◌}
 use native.Mathlib.Omega.{arith}
 use mathlib.Core.List.{List, [], ◌++◌, append_assoc, append-nil}
 use mathlib.Core.Path.{◌≡◌, refl, sym, ap, ◌∙◌, subst}
+use Rattle.std.specs.Prelude.{Ok, Err, None}
+use Rattle.std.specs.Result.{result_ok}
 use Rattle.ast.specs.Tree.{Expression, Factor, Factors, Statement, Block}
 use Rattle.listing.specs.declared.Line.{Line}
 use Rattle.rows.specs.Rows.{line_in}
 use Rattle.reader.specs.Spells.{SpellsExpression, SpellsFactor, SpellsFactors, SpellsStatement, SpellsBlock, SpellsStatements}
-use Rattle.rules.specs.Result.{Result, ok, err}
+use Rattle.rules.specs.Result.{Result}
 use Rattle.rules.specs.Limits.{wait}
 use Rattle.rules.specs.Walk.{Wait}
 use Rattle.rules.proofs.Takers.{noted, waits_in, waits_of}
-use Rattle.limits.specs.declared.waits.WaitFound.{WaitFound}
-use Rattle.limits.specs.Waits.{wait_of, found_of, found_in}
+use Rattle.limits.specs.Waits.{found_in}
 use Rattle.reporting.specs.Waits.{wait_at, waits_from, waits_between}
 
 -- the waits in the rows from row i up to j, row by row
@@ -32,13 +33,13 @@ between-are {L} {i} {j} (Between.more b) =
     ap (waits_from L i) e ∙ ap (wait_at i (found_in (L i)) ++◌) (between-are b)
 
 -- what the row of a wait holds
-noted-at : (i : ℕ) (m : Result ℕ) → wait_at i (found_of (wait_of m)) ≡ noted (suc i) m
-noted-at i (ok k) = refl
-noted-at i (err x) = refl
+noted-at : (i : ℕ) (m : Result ℕ) → wait_at i (result_ok m) ≡ noted (suc i) m
+noted-at i (Ok k) = refl
+noted-at i (Err x) = refl
 
 module _ {L : ℕ → Line} where
   -- a row of another line
-  other : {i j : ℕ} {ws : List Wait} → found_in (L i) ≡ WaitFound.Nothing → Between L (suc i) j ws → Between L i j ws
+  other : {i j : ℕ} {ws : List Wait} → found_in (L i) ≡ None → Between L (suc i) j ws → Between L i j ws
   other {i} {j} {ws} e b = subst (λ f. Between L i j (wait_at i f ++ ws)) e (Between.more b)
 
   grouped : {i k : ℕ} (us vs ws : List Wait) → Between L i k (us ++ (vs ++ ws)) → Between L i k ((us ++ vs) ++ ws)

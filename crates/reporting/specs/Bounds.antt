@@ -1,22 +1,9 @@
--- How long the texts of a report can be, so that a position in one can be counted.
-use Rattle.std.specs.Prelude.{ℕ, List, [], ◌∷◌, ◌++◌}
-use Rattle.output.specs.Decimal.{decimal}
-use Rattle.reporting.specs.Text.{report_line}
-
--- two fields with numbers
-abbrev pub pair : ℕ → ℕ → List ℕ
-pair a b = (44 ∷ decimal a) ++ (44 ∷ decimal b)
-
-abbrev pub pair_bound : ℕ
-pair_bound = 22
+-- How long the texts of a report can be.
+use Rattle.std.specs.Prelude.{ℕ}
 
 -- R, a number and four fields
 abbrev pub refusal_bound : ℕ
 refusal_bound = 57
-
--- a name of a listing's bytes, with its comma
-abbrev pub name_bound : ℕ
-name_bound = 32769
 
 -- P, four fields, a name of a listing's bytes
 abbrev pub item_bound : ℕ
@@ -34,21 +21,6 @@ path_bound = 1050104
 abbrev pub paths_bound : ℕ
 paths_bound = 33603328
 
--- W and two fields
-abbrev pub wait_bound : ℕ
-wait_bound = 24
-
--- 1024 waits
-abbrev pub waits_bound : ℕ
-waits_bound = 24576
-
--- A and a number
-abbrev pub head_line : ℕ → List ℕ
-head_line n = report_line 65 (decimal n ∷ [])
-
-abbrev pub head_bound : ℕ
-head_bound = 13
-
--- A, a number, the paths and the waits
+-- A, a number, the paths, and 1024 waits of at most 24 bytes
 abbrev pub acceptance_bound : ℕ
 acceptance_bound = 33627917

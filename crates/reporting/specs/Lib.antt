@@ -1,4 +1,5 @@
 pub mod Text
 pub mod Bounds
-pub mod Taker
+pub mod Fields
 pub mod Waits
+pub mod Analyzed

@@ -1,10 +1,10 @@
 -- The text of a report.
-use Rattle.std.specs.Prelude.{ℕ, suc, List, [], ◌∷◌, ◌++◌, length}
+use Rattle.std.specs.Prelude.{ℕ, suc, List, [], ◌∷◌, ◌++◌, length, Ok, Err}
 use Rattle.std.proofs.Math.Option.{Option, some, none}
 use Rattle.ast.specs.declared.CompileError.{CompileError}
 use Rattle.ast.specs.Tree.{Name, StackParam, number}
 use Rattle.ast.specs.Numbers.{type_number}
-use Rattle.rules.specs.Result.{Result, ok, err}
+use Rattle.rules.specs.Result.{Result}
 use Rattle.rules.specs.Table.{Entry, Table}
 use Rattle.rules.specs.Walk.{Wait}
 use Rattle.rules.specs.Analyze.{Analysis}
@@ -69,5 +69,5 @@ refusal x = report_line 82 (decimal (number x.kind) ∷ decimal x.loc.start ∷ 
 
 -- the report of what was found
 unfoldable pub text_of : Result Analysis → List ℕ
-text_of (ok a) = acceptance a
-text_of (err x) = refusal x
+text_of (Ok a) = acceptance a
+text_of (Err x) = refusal x

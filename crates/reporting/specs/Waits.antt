@@ -1,20 +1,19 @@
 -- The waits that stand in rows, and what is reported from rows.
-use Rattle.std.specs.Prelude.{ℕ, zero, suc, ◌-◌, ◌≤◌, List, [], ◌∷◌, ◌++◌}
+use Rattle.std.specs.Prelude.{ℕ, zero, suc, ◌-◌, ◌≤◌, Option, None, Some, List, [], ◌∷◌, ◌++◌}
 use Rattle.listing.specs.declared.Line.{Line}
 use Rattle.rows.specs.Rows.{line_in, HasRows}
 use Rattle.reader.specs.Ceilings.{max_lines}
 use Rattle.rules.specs.Walk.{Wait}
 use Rattle.rules.specs.Analyze.{Analysis}
-use Rattle.limits.specs.declared.waits.WaitFound.{WaitFound}
 use Rattle.limits.specs.Waits.{found_in}
-use Rattle.paths.specs.declared.NamePlace.{NamePlace}
+use Rattle.paths.specs.declared.Path.{Path}
 use Rattle.declarations.specs.declared.Declared.{Declared}
 use Rattle.tables.specs.State.{tables_of}
 
 -- the wait that was found in row i, on listing line i + 1
-abbrev pub wait_at : ℕ → WaitFound → List Wait
-wait_at i (WaitFound.Number k) = record { line = suc i; number = k } ∷ []
-wait_at i WaitFound.Nothing = []
+abbrev pub wait_at : ℕ → Option ℕ → List Wait
+wait_at i (Some k) = record { line = suc i; number = k } ∷ []
+wait_at i None = []
 
 -- those in n rows from row i on
 unfoldable pub waits_from : (ℕ → Line) → ℕ → ℕ → List Wait
@@ -30,5 +29,5 @@ abbrev pub RowsBetween : List ℕ → ℕ → ℕ → Type 0
 RowsBetween t i j = (i ≤ j) × HasRows t j × (j ≤ max_lines)
 
 -- what the tables and n rows say: the tables of all paths, the waits of the block
-abbrev pub analysis_in : List ℕ → List ℕ → ℕ → Declared → List (List NamePlace) → List ℕ → Analysis
-analysis_in s t n d rows taken = record { tables = tables_of s t d rows taken; waits = waits_between t d.block n }
+abbrev pub analysis_in : List ℕ → List ℕ → ℕ → Declared → List Path → Analysis
+analysis_in s t n d paths = record { tables = tables_of s t d paths; waits = waits_between t d.block n }

@@ -1,8 +1,9 @@
 // Lines kept as rows of lent work memory.
 #![tactic(auto)]
 
-ghost use Rattle.std.specs.Prelude.{◌≡◌, ◌≤◌, length};
-ghost use Rattle.rows.specs.Rows.{place_in, signed_in, part_in, row_in, HasRow};
+ghost use Rattle.std.specs.Prelude.{◌≡◌, ◌*◌, ◌≤◌, length};
+ghost use Rattle.std.proofs.lemmas.List.Edits.{sets};
+ghost use Rattle.rows.specs.Rows.{place_in, signed_in, part_in, row_in, row_words, words_of, HasRow};
 ghost use Rattle.rows.specs.Work.{work_words, cleared};
 
 use ast::{Location, Signed};
@@ -10,6 +11,13 @@ use text::Place;
 
 // How many words a row has.
 pub const ROW_WORDS: usize = 9;
+
+// A listing, and the rows of its lines.
+#[derive(Clone, Copy)]
+pub struct Rows<'a> {
+    pub listing: &'a [u8],
+    pub table: &'a [u32],
+}
 
 // The letter of a line's form, its location, and up to four more fields.
 #[derive(Clone, Copy, PartialEq, Eq)]
@@ -25,32 +33,36 @@ pub struct Words {
     pub d: u32,
 }
 
-pub fn place_in(r: Words) -> Location
-    ensures { result ≡ place_in r }
-{
-    Location {
-        start: r.start,
-        end: r.end,
-        line: r.line,
-        column: r.column,
+impl Words {
+    // Where the line's node stands.
+    pub fn location(self) -> Location
+        ensures { result ≡ place_in self }
+    {
+        Location {
+            start: self.start,
+            end: self.end,
+            line: self.line,
+            column: self.column,
+        }
     }
-}
 
-pub fn signed_in(r: Words) -> Signed
-    ensures { result ≡ signed_in r }
-{
-    Signed {
-        negative: r.b == 1,
-        magnitude: r.d as u64 * 4294967296 + r.c as u64,
+    pub fn signed(self) -> Signed
+        ensures { result ≡ signed_in self }
+    {
+        Signed {
+            negative: self.b == 1,
+            magnitude: u64::from(self.d) * 4294967296 + u64::from(self.c),
+        }
     }
-}
 
-pub fn part_in(r: Words) -> Place
-    ensures { result ≡ part_in r }
-{
-    Place {
-        at: r.a as usize,
-        len: r.b as usize,
+    // The part of the listing that a line names.
+    pub fn part(self) -> Place
+        ensures { result ≡ part_in self }
+    {
+        Place {
+            at: self.a as usize,
+            len: self.b as usize,
+        }
     }
 }
 
@@ -71,6 +83,24 @@ pub fn row_in(table: &[u32], i: usize) -> Words
         c: table[at + 7],
         d: table[at + 8],
     }
+}
+
+// The row numbered i (from 0) of a table, stored.
+#[tactic(auto, unfolding(crate::specs::Rows::words_of))]
+pub fn store_row(table: &mut [u32], i: usize, r: Words)
+    requires { HasRow table.old i }
+    ensures { table.new ≡ sets table.old (i * row_words) (words_of r) }
+{
+    let first = i * ROW_WORDS;
+    table[first] = r.kind;
+    table[first + 1] = r.start;
+    table[first + 2] = r.end;
+    table[first + 3] = r.line;
+    table[first + 4] = r.column;
+    table[first + 5] = r.a;
+    table[first + 6] = r.b;
+    table[first + 7] = r.c;
+    table[first + 8] = r.d;
 }
 
 // The first 16384 words zero, the rest unchanged.

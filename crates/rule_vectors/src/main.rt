@@ -7,7 +7,6 @@ use records::{FILLED, ReadError, Records, Refusal, Tally, print_cut_short, wrong
 use std::fs::File;
 use std::io::Read;
 use std::{fmt, io};
-use verdicts::Verdict;
 
 // No listing of a record is longer.
 const LONGEST: usize = 32768;
@@ -16,17 +15,6 @@ const LONGEST: usize = 32768;
 #[derive(Clone, Copy)]
 struct Answer {
     refusal: Option<Refusal>,
-}
-
-impl From<Verdict> for Answer {
-    fn from(verdict: Verdict) -> Answer {
-        match verdict {
-            Verdict::Accepted => Answer { refusal: None },
-            Verdict::Refused(e) => Answer {
-                refusal: Some(Refusal(e)),
-            },
-        }
-    }
 }
 
 impl fmt::Display for Answer {
@@ -40,7 +28,8 @@ impl fmt::Display for Answer {
 
 fn examine(rt: &impl Print, listing: &[u8], tally: &mut Tally) -> io::Result<()> {
     let mut work = [FILLED; 16400];
-    let answer = Answer::from(examiner::check(listing, &mut work));
+    let refusal = examiner::check(listing, &mut work).err().map(Refusal);
+    let answer = Answer { refusal };
     println!(rt; "{},{answer}", tally.listings)?;
     tally.add(answer.refusal.is_none(), wrong_words(&work));
     Ok(())

@@ -5,8 +5,9 @@ use mathlib.Core.List.{[], ◌∷◌}
 use mathlib.Core.Option.{Option, some, none}
 use mathlib.Core.Path.{◌≡◌, refl, ◌∙◌, ap}
 use lib.ListN.{get_elem?, set}
+use Rattle.std.specs.Prelude.{Ok}
 use Rattle.rules.specs.Ast.{Name, same, Location, UndefinedVariable, VariableConsumed, InvalidConsumptionOrder}
-use Rattle.rules.specs.Result.{Result, ok, ◌>>=◌, refuse}
+use Rattle.rules.specs.Result.{Result, ◌>>=◌, refuse}
 use Rattle.rules.specs.Table.{Entry, Table}
 use Rattle.rules.specs.Usage.{take, take_entry, free, mark}
 
@@ -30,7 +31,7 @@ unfoldable pub take_item : Bool → Location → ℕ → ℕ → Table → Optio
 take_item gap l n i t none = refuse UndefinedVariable l
 take_item gap l n i t (some e) = elim e.taken [
   | some m ↦ refuse VariableConsumed l
-  | none ↦ elim gap [ true ↦ refuse InvalidConsumptionOrder l | false ↦ ok (set t i (mark n e)) ]
+  | none ↦ elim gap [ true ↦ refuse InvalidConsumptionOrder l | false ↦ Ok (set t i (mark n e)) ]
 ]
 
 unfoldable pub take_found : Bool → Location → ℕ → Table → Option ℕ → Result Table
@@ -47,22 +48,22 @@ here true l n e t = go e.taken
     go (some m) = refl
 here false l n e t = go e.taken
   where
-    go : (o : Option ℕ) → take_entry false l n e t o ≡ elim o [ some m ↦ refuse VariableConsumed l | none ↦ ok (mark n e ∷ t) ]
+    go : (o : Option ℕ) → take_entry false l n e t o ≡ elim o [ some m ↦ refuse VariableConsumed l | none ↦ Ok (mark n e ∷ t) ]
     go none = refl
     go (some m) = refl
 
 -- a later item
-below-item : (gap : Bool) (l : Location) (n i : ℕ) (e : Entry) (t : Table) (o : Option Entry) → (take_item gap l n i t o >>= λ t'. ok (e ∷ t')) ≡ take_item gap l n (suc i) (e ∷ t) o
+below-item : (gap : Bool) (l : Location) (n i : ℕ) (e : Entry) (t : Table) (o : Option Entry) → (take_item gap l n i t o >>= λ t'. Ok (e ∷ t')) ≡ take_item gap l n (suc i) (e ∷ t) o
 unfolding take_item
 below-item gap l n i e t none = refl
 below-item gap l n i e t (some c) = go c.taken gap
   where
-    go : (o : Option ℕ) (g : Bool) → ((elim o as (λ o'. Result Table) [ some m ↦ refuse VariableConsumed l | none ↦ elim g as (λ g'. Result Table) [ true ↦ refuse InvalidConsumptionOrder l | false ↦ ok (set t i (mark n c)) ] ]) >>= λ t'. ok (e ∷ t')) ≡ elim o as (λ o'. Result Table) [ some m ↦ refuse VariableConsumed l | none ↦ elim g as (λ g'. Result Table) [ true ↦ refuse InvalidConsumptionOrder l | false ↦ ok (e ∷ set t i (mark n c)) ] ]
+    go : (o : Option ℕ) (g : Bool) → ((elim o as (λ o'. Result Table) [ some m ↦ refuse VariableConsumed l | none ↦ elim g as (λ g'. Result Table) [ true ↦ refuse InvalidConsumptionOrder l | false ↦ Ok (set t i (mark n c)) ] ]) >>= λ t'. Ok (e ∷ t')) ≡ elim o as (λ o'. Result Table) [ some m ↦ refuse VariableConsumed l | none ↦ elim g as (λ g'. Result Table) [ true ↦ refuse InvalidConsumptionOrder l | false ↦ Ok (e ∷ set t i (mark n c)) ] ]
     go none true = refl
     go none false = refl
     go (some m) g = refl
 
-below : (gap : Bool) (l : Location) (n : ℕ) (e : Entry) (t : Table) (o : Option ℕ) → (take_found (gap || free e.taken) l n t o >>= λ t'. ok (e ∷ t')) ≡ take_found gap l n (e ∷ t) (later o)
+below : (gap : Bool) (l : Location) (n : ℕ) (e : Entry) (t : Table) (o : Option ℕ) → (take_found (gap || free e.taken) l n t o >>= λ t'. Ok (e ∷ t')) ≡ take_found gap l n (e ∷ t) (later o)
 unfolding take_found free_below
 below gap l n e t none = refl
 below gap l n e t (some i) =
@@ -76,4 +77,4 @@ take_found_lem gap l n x (e ∷ t) = go (same x e.param.identifier) refl (take_f
   where
     go : (b : Bool) → same x e.param.identifier ≡ b → take (gap || free e.taken) l n x t ≡ take_found (gap || free e.taken) l n t (find x t) → take gap l n x (e ∷ t) ≡ take_found gap l n (e ∷ t) (find x (e ∷ t))
     go true q k = rw (q, take) (rw (q, find) (here gap l n e t))
-    go false q k = rw (q, take) (rw (q, find) (ap (λ m. m >>= λ t'. ok (e ∷ t')) k ∙ below gap l n e t (find x t)))
+    go false q k = rw (q, take) (rw (q, find) (ap (λ m. m >>= λ t'. Ok (e ∷ t')) k ∙ below gap l n e t (find x t)))

@@ -3,13 +3,14 @@ use Prim.Native.Nat.{ℕ, ◌<◌}
 use native.Mathlib.Omega.{arith}
 use mathlib.Core.Bool.{Bool, true, false}
 use mathlib.Core.List.{List, [], ◌∷◌, ◌++◌, map, append_assoc, append-nil}
-use mathlib.Core.Option.{Option, some, none}
+use mathlib.Core.Option.{some}
 use mathlib.Core.Path.{◌≡◌, refl, sym, ◌∙◌, ap, ap₂, subst, transport, transport⁻¹}
 use lib.Dec.{eqb}
 use lib.ListN.{length, get_or, length-map, length-append}
 use borrow.Author.Tests.{eqb-true, eq-eqb}
-use Rattle.rules.specs.Ast.{Name, same, Target, StackParam, Declaration, Contract, Block, Ok, from_top}
-use Rattle.rules.specs.Result.{Result, ok, ◌>>=◌, ◌>>◌, answer}
+use Rattle.std.specs.Prelude.{Ok}
+use Rattle.rules.specs.Ast.{Name, same, Target, StackParam, Declaration, Contract, Block, from_top}
+use Rattle.rules.specs.Result.{Result, ◌>>=◌, ◌>>◌, answer}
 use Rattle.rules.specs.Paths.{Path, paths, count}
 use Rattle.rules.specs.Flow.{flow}
 use Rattle.rules.specs.Table.{Table, params, build_all}
@@ -20,7 +21,7 @@ use Rattle.rules.specs.Stack.{Met, meets, along, feed, stack, Empties}
 use Rattle.rules.proofs.Takers.{final, final_all, finals, waits_of, outcome}
 use Rattle.rules.proofs.Theorem.{check, Accepted, Demand3}
 use Rattle.rules.specs.InOrder.{DistinctAll, Typed, Limited, InOrder}
-use Rattle.rules.proofs.Basics.{Err≢Ok, ok_ok, bound, checked, both_ok, answer_ok, same_true, same_refl, cons_head, cons_tail, nil≢cons'}
+use Rattle.rules.proofs.Basics.{Err≢Ok, bound, checked, both_ok, answer_ok, same_true, same_refl, Ok-injective}
 use Rattle.rules.proofs.State.{State, idents, Takes, named-of}
 use Rattle.rules.proofs.Moving.{begun, start, BuiltAll, build_all-sound, build_all-can, unused-sound, unused-can}
 use Rattle.rules.proofs.Flowing.{Flows, flows, count-paths, First, first}
@@ -34,12 +35,12 @@ use Rattle.rules.proofs.Complete.{Meets, DistinctEach, complete}
 pub feed-sound : (xs s : List Name) → feed xs s ≡ some [] → s ≡ xs
 unfolding feed
 feed-sound [] s h = cc
-feed-sound (x ∷ xs) [] h = let z : ◌≡◌ {A = ℕ} 0 1 = cc in absurd (omega arith)
+feed-sound (x ∷ xs) [] h = cc
 feed-sound (x ∷ xs) (y ∷ s) h = go (same x y) refl (feed-sound xs s)
   where
     go : (b : Bool) → same x y ≡ b → (feed xs s ≡ some [] → s ≡ xs) → ◌≡◌ {A = List Name} (y ∷ s) (x ∷ xs)
     go true q k = ap₂ ◌∷◌ (sym (same_true x y q)) (k (rw (q, feed) at h))
-    go false q k = let e : ◌≡◌ {A = Option (List Name)} none (some []) = rw (q, feed) at h in let z : ◌≡◌ {A = ℕ} 0 1 = cc in absurd (omega arith)
+    go false q k = let e = rw (q, feed) at h in cc
 
 pub feed-can : (xs : List Name) → feed xs xs ≡ some []
 unfolding feed
@@ -51,7 +52,7 @@ abbrev pub Exact : Path → List StackParam → Type 0
 Exact p ps = idents ps ≡ along p
 
 -- every table used up
-used_sound : (ps : List Path) (os us : List Table) → Each (λ p o. State (meets p) o) ps os → unused_all (os ++ us) ≡ Ok → Each (λ p o. Each Takes (meets p) o) ps os
+used_sound : (ps : List Path) (os us : List Table) → Each (λ p o. State (meets p) o) ps os → unused_all (os ++ us) ≡ Ok tt → Each (λ p o. Each Takes (meets p) o) ps os
 unfolding unused_all
 used_sound [] [] us k h = tt
 used_sound [] (o ∷ os) us k h = absurd k
@@ -60,7 +61,7 @@ used_sound (p ∷ ps) (o ∷ os) us k h =
     let c = both_ok (unused o) (unused_all (os ++ us)) h in
     (unused-sound (meets p) o k.0 c.0, used_sound ps os us k.1 c.1)
 
-used-can : (ps : List Path) (os : List Table) → Each (λ p o. State (meets p) o) ps os → Each (λ p o. Exact p (params o)) ps os → unused_all os ≡ Ok
+used-can : (ps : List Path) (os : List Table) → Each (λ p o. State (meets p) o) ps os → Each (λ p o. Exact p (params o)) ps os → unused_all os ≡ Ok tt
 unfolding unused_all
 used-can [] [] k e = refl
 used-can [] (o ∷ os) k e = absurd k
@@ -72,7 +73,7 @@ distinct-each [] u = tt
 distinct-each (d ∷ ds) u = (u.0, distinct-each ds u.1)
 
 -- as many declarations as paths
-counted-sound : (n : ℕ) (ds : List Declaration) → counted n ds ≡ Ok → length ds ≡ n
+counted-sound : (n : ℕ) (ds : List Declaration) → counted n ds ≡ Ok tt → length ds ≡ n
 unfolding counted
 counted-sound n ds h = go (eqb (length ds) n) refl
   where
@@ -80,7 +81,7 @@ counted-sound n ds h = go (eqb (length ds) n) refl
     go true q = eqb-true (length ds) n q
     go false q = absurd (Err≢Ok (rw (q, counted) at h))
 
-counted-can : (n : ℕ) (ds : List Declaration) → length ds ≡ n → counted n ds ≡ Ok
+counted-can : (n : ℕ) (ds : List Declaration) → length ds ≡ n → counted n ds ≡ Ok tt
 unfolding counted
 counted-can n ds h = rw (eq-eqb (length ds) n h, counted) refl
 
@@ -122,11 +123,14 @@ takes-final (v ∷ ks) (e ∷ o) k = ap₂ ◌∷◌ (ap (λ x. record { param =
 takes-finals : (ps : List Path) (os : List Table) (ds : List Declaration) → Each (λ p o. Each Takes (meets p) o) ps os → map params os ≡ map from_top ds → os ≡ final_all ds ps
 unfolding final_all
 takes-finals [] [] [] k h = refl
-takes-finals [] [] (d ∷ ds) k h = absurd (nil≢cons' h)
+takes-finals [] [] (d ∷ ds) k h = cc
 takes-finals [] (o ∷ os) ds k h = absurd k
 takes-finals (p ∷ ps) [] ds k h = absurd k
-takes-finals (p ∷ ps) (o ∷ os) [] k h = absurd (nil≢cons' (sym h))
-takes-finals (p ∷ ps) (o ∷ os) (d ∷ ds) k h = ap₂ ◌∷◌ (takes-final (meets p) o k.0 ∙ ap (λ q. final q (meets p)) (cons_head h)) (takes-finals ps os ds k.1 (cons_tail h))
+takes-finals (p ∷ ps) (o ∷ os) [] k h = cc
+takes-finals (p ∷ ps) (o ∷ os) (d ∷ ds) k h =
+    let head : params o ≡ from_top d = cc in
+    let tail : map params os ≡ map from_top ds = cc in
+    ap₂ ◌∷◌ (takes-final (meets p) o k.0 ∙ ap (λ q. final q (meets p)) head) (takes-finals ps os ds k.1 tail)
 
 named : (ps : List Path) (os : List Table) → Each (λ p o. Each Takes (meets p) o) ps os → Each (λ p o. Exact p (params o)) ps os
 named [] [] k = tt
@@ -141,10 +145,10 @@ record Told (c : Contract) (ts : List Table) : Type 0 where
   exact : Each (λ p d. Exact p (from_top d)) (paths c.block) c.declarations
   final : ts ≡ finals c
 
-told : (c : Contract) (f : Flows c.block) (t : Table) (ts : List Table) (z : Stepped) → length c.declarations ≡ count c.block → BuiltAll c.declarations (t ∷ ts) → steps f c.target t ts ≡ ok z → unused_all (z.fin ++ z.cur ∷ z.rest) ≡ Ok → Told c (z.fin ++ z.cur ∷ z.rest)
+told : (c : Contract) (f : Flows c.block) (t : Table) (ts : List Table) (z : Stepped) → length c.declarations ≡ count c.block → BuiltAll c.declarations (t ∷ ts) → steps f c.target t ts ≡ Ok z → unused_all (z.fin ++ z.cur ∷ z.rest) ≡ Ok tt → Told c (z.fin ++ z.cur ∷ z.rest)
 told c f t ts z n b h u =
     let s = sound f c.target [] [] t ts z (omega arith) (start t b.fresh.0) (begun ts b.fresh.1) h in
-    let u' : unused_all (outs z ++ z.rest) ≡ Ok = subst (λ us. unused_all us ≡ Ok) (sym (append_assoc z.fin (z.cur ∷ []) z.rest)) u in
+    let u' : unused_all (outs z ++ z.rest) ≡ Ok tt = subst (λ us. unused_all us ≡ Ok tt) (sym (append_assoc z.fin (z.cur ∷ []) z.rest)) u in
     let e = used_sound (paths c.block) (outs z) z.rest s.each u' in
     let l = laid c.block c.target t ts z c.declarations s b.of n in
     record {
@@ -154,12 +158,12 @@ told c f t ts z n b h u =
       final = ap (λ us. z.fin ++ z.cur ∷ us) (spent c.block c.target t ts z c.declarations s b.of n) ∙ takes-finals (paths c.block) (outs z) c.declarations e l;
     }
 
-told-walk : (c : Contract) (f : Flows c.block) (ts : List Table) (w : Walked) → length c.declarations ≡ count c.block → BuiltAll c.declarations ts → walk c.block c.target (begin ts) ≡ ok w → unused_all w.tables ≡ Ok → Told c w.tables × (w.waits ≡ waits_of c.block)
-told-walk c f [] w n b h u = absurd (nil≢cons' (headed c.block (first f) [] c.declarations b.of n).2)
+told-walk : (c : Contract) (f : Flows c.block) (ts : List Table) (w : Walked) → length c.declarations ≡ count c.block → BuiltAll c.declarations ts → walk c.block c.target (begin ts) ≡ Ok w → unused_all w.tables ≡ Ok tt → Told c w.tables × (w.waits ≡ waits_of c.block)
+told-walk c f [] w n b h u = let e = (headed c.block (first f) [] c.declarations b.of n).2 in cc
 told-walk c f (t ∷ ts) w n b h u =
-    let m = bound (steps f c.target t ts) (λ z. ok (placed_at [] (waits_of c.block) z)) (sym (simulate f c.target [] [] t ts) ∙ h) in (
-      subst (λ x. Told c x.tables) (ok_ok m.then) (told c f t ts m.value n b m.first (subst (λ x. unused_all x.tables ≡ Ok) (sym (ok_ok m.then)) u)),
-      ap (λ x. x.waits) (sym (ok_ok m.then)),
+    let m = bound (steps f c.target t ts) (λ z. Ok (placed_at [] (waits_of c.block) z)) (sym (simulate f c.target [] [] t ts) ∙ h) in (
+      subst (λ x. Told c x.tables) (Ok-injective m.then) (told c f t ts m.value n b m.first (subst (λ x. unused_all x.tables ≡ Ok tt) (sym (Ok-injective m.then)) u)),
+      ap (λ x. x.waits) (sym (Ok-injective m.then)),
     )
 
 -- each path empties its stack
@@ -170,7 +174,7 @@ emptied c e n h =
 
 -- the analysis from the tables on
 abbrev walk_from : Contract → List Table → Result Analysis
-walk_from c ts = walk c.block c.target (begin ts) >>= λ w. unused_all w.tables >> ok (record { tables = w.tables; waits = w.waits })
+walk_from c ts = walk c.block c.target (begin ts) >>= λ w. unused_all w.tables >> Ok (record { tables = w.tables; waits = w.waits })
 
 -- all that an analysis that passes says
 record All (c : Contract) (a : Analysis) : Type 0 where
@@ -178,28 +182,28 @@ record All (c : Contract) (a : Analysis) : Type 0 where
   empty : (n : ℕ) → n < count c.block → Empties c n
   final : a ≡ outcome c
 
-analyzed : (c : Contract) (a : Analysis) → analyze c ≡ ok a → All c a
+analyzed : (c : Contract) (a : Analysis) → analyze c ≡ Ok a → All c a
 unfolding analyze
 analyzed c a h =
     let k₁ = checked (flow c.block) (counted (count c.block) c.declarations >> (build_all c.declarations >>= λ ts. walk_from c ts)) h in
     let k₂ = checked (counted (count c.block) c.declarations) (build_all c.declarations >>= λ ts. walk_from c ts) k₁.1 in
     let b₃ = bound (build_all c.declarations) (λ ts. walk_from c ts) k₂.1 in
-    let b₄ = bound (walk c.block c.target (begin b₃.value)) (λ w. unused_all w.tables >> ok (record { tables = w.tables; waits = w.waits })) b₃.then in
+    let b₄ = bound (walk c.block c.target (begin b₃.value)) (λ w. unused_all w.tables >> Ok (record { tables = w.tables; waits = w.waits })) b₃.then in
     let w = b₄.value in
-    let k₅ = checked (unused_all w.tables) (ok (record { tables = w.tables; waits = w.waits })) b₄.then in
+    let k₅ = checked (unused_all w.tables) (Ok (record { tables = w.tables; waits = w.waits })) b₄.then in
     let n = counted-sound (count c.block) c.declarations k₂.0 in
     let b = build_all-sound c.declarations b₃.value b₃.first in
     let r = told-walk c (flows c.block k₁.0) b₃.value w n b b₄.first k₅.0 in
     record {
       order = record { flows = k₁.0; counts = n; distinct = b.distinct; typed = r.0.typed; limited = r.0.limited };
       empty = emptied c r.0.exact;
-      final = sym (ok_ok k₅.1) ∙ ap₂ (λ ts ks. record { tables = ts; waits = ks }) r.0.final r.1;
+      final = sym (Ok-injective k₅.1) ∙ ap₂ (λ ts ks. record { tables = ts; waits = ks }) r.0.final r.1;
     }
 
 -- an accepted contract's tables and waits are those that the tree gives
-pub accepted-finals : (c : Contract) → Accepted c → analyze c ≡ ok (outcome c)
+pub accepted-finals : (c : Contract) → Accepted c → analyze c ≡ Ok (outcome c)
 unfolding check
-accepted-finals c h = let a = answer_ok (analyze c) h in a.1 ∙ ap ok (analyzed c a.0 a.1).final
+accepted-finals c h = let a = answer_ok (analyze c) h in a.1 ∙ ap Ok (analyzed c a.0 a.1).final
 
 pub accepted-in-order : (c : Contract) → Accepted c → InOrder c × ((n : ℕ) → n < count c.block → Empties c n)
 unfolding check
@@ -213,20 +217,20 @@ exact : (c : Contract) → length c.declarations ≡ count c.block → ((n : ℕ
 exact c n k = at_each (λ p d. Exact p (from_top d)) (paths c.block) c.declarations [] [] (sym (n ∙ count-paths c.block))
     (λ i h. feed-sound (along (get_or (paths c.block) i [])) (stack (get_or c.declarations i [])) (k i (omega (arith, count-paths c.block))))
 
-finished : (c : Contract) (f : Flows c.block) (t : Table) (ts : List Table) (z : Stepped) → length c.declarations ≡ count c.block → BuiltAll c.declarations (t ∷ ts) → steps f c.target t ts ≡ ok z → Each (λ p d. Exact p (from_top d)) (paths c.block) c.declarations → unused_all (z.fin ++ z.cur ∷ z.rest) ≡ Ok
+finished : (c : Contract) (f : Flows c.block) (t : Table) (ts : List Table) (z : Stepped) → length c.declarations ≡ count c.block → BuiltAll c.declarations (t ∷ ts) → steps f c.target t ts ≡ Ok z → Each (λ p d. Exact p (from_top d)) (paths c.block) c.declarations → unused_all (z.fin ++ z.cur ∷ z.rest) ≡ Ok tt
 finished c f t ts z n b h e =
     let s = sound f c.target [] [] t ts z (omega arith) (start t b.fresh.0) (begun ts b.fresh.1) h in
     let l = laid c.block c.target t ts z c.declarations s b.of n in
     let e' = each-unmap params Exact (paths c.block) (outs z) (subst (Each Exact (paths c.block)) (sym l) (each-onmap from_top Exact (paths c.block) c.declarations e)) in
-    subst (λ us. unused_all (z.fin ++ z.cur ∷ us) ≡ Ok) (sym (spent c.block c.target t ts z c.declarations s b.of n)) (used-can (paths c.block) (outs z) s.each e')
+    subst (λ us. unused_all (z.fin ++ z.cur ∷ us) ≡ Ok tt) (sym (spent c.block c.target t ts z c.declarations s b.of n)) (used-can (paths c.block) (outs z) s.each e')
 
-walks : (c : Contract) (f : Flows c.block) (ts : List Table) → InOrder c → BuiltAll c.declarations ts → Each (λ p d. Exact p (from_top d)) (paths c.block) c.declarations → (w : Walked) × (walk c.block c.target (begin ts) ≡ ok w) × (unused_all w.tables ≡ Ok)
-walks c f [] o b e = absurd (nil≢cons' (headed c.block (first f) [] c.declarations b.of o.counts).2)
+walks : (c : Contract) (f : Flows c.block) (ts : List Table) → InOrder c → BuiltAll c.declarations ts → Each (λ p d. Exact p (from_top d)) (paths c.block) c.declarations → (w : Walked) × (walk c.block c.target (begin ts) ≡ Ok w) × (unused_all w.tables ≡ Ok tt)
+walks c f [] o b e = let e = (headed c.block (first f) [] c.declarations b.of o.counts).2 in cc
 walks c f (t ∷ ts) o b e =
     let q = sym b.of in
     let r = complete f c.target [] [] t ts (omega arith) (start t b.fresh.0) (begun ts b.fresh.1) (subst DistinctEach q (distinct-each c.declarations o.distinct)) (subst (TypedOn c.block c.target) q (transport⁻¹ (typed-eq c.block c.target c.declarations 0) o.typed)) o.limited
     (subst (Begins (Meets []) (paths c.block)) q (each-begins (Meets []) (paths c.block) (map from_top c.declarations) (each-onmap from_top Exact (paths c.block) c.declarations e))) in
-    (placed_at [] (waits_of c.block) r.0, simulate f c.target [] [] t ts ∙ ap (λ m. m >>= λ z. ok (placed_at [] (waits_of c.block) z)) r.1, finished c f t ts r.0 o.counts b r.1 e)
+    (placed_at [] (waits_of c.block) r.0, simulate f c.target [] [] t ts ∙ ap (λ m. m >>= λ z. Ok (placed_at [] (waits_of c.block) z)) r.1, finished c f t ts r.0 o.counts b r.1 e)
 
 pub in-order-accepted : (c : Contract) → InOrder c → ((n : ℕ) → n < count c.block → Empties c n) → Accepted c
 unfolding check analyze answer
@@ -238,8 +242,8 @@ in-order-accepted c o k =
     ap (λ m. m >> (counted (count c.block) c.declarations >> (build_all c.declarations >>= λ ts. walk_from c ts))) o.flows
     ∙ ap (λ m. m >> (build_all c.declarations >>= λ ts. walk_from c ts)) (counted-can (count c.block) c.declarations o.counts)
     ∙ ap (λ m. m >>= λ ts. walk_from c ts) b.1
-    ∙ ap (λ m. m >>= λ w. unused_all w.tables >> ok (record { tables = w.tables; waits = w.waits })) w.1
-    ∙ ap (λ m. m >> ok (record { tables = w.0.tables; waits = w.0.waits })) w.2)
+    ∙ ap (λ m. m >>= λ w. unused_all w.tables >> Ok (record { tables = w.tables; waits = w.waits })) w.1
+    ∙ ap (λ m. m >> Ok (record { tables = w.0.tables; waits = w.0.waits })) w.2)
 
 -- DEMAND 3, on trees
 pub demand3 : Demand3

@@ -5,8 +5,9 @@ use mathlib.Core.List.{List, [], ◌∷◌, map}
 use mathlib.Core.Option.{Option, some}
 use mathlib.Core.Path.{◌≡◌, refl}
 use lib.ListN.{replicate}
-use Rattle.rules.specs.Ast.{Location, nowhere, Signed, Target, Legacy, ItemType, Signature, Number, String, Boolean, StackParam, Declaration, Contract, Expression, Variable, NumberLiteral, BooleanLiteral, StringLiteral, LogicalExpression, CompareExpression, UnaryMathExpression, BinaryMathExpression, UnaryCryptoExpression, CheckSigExpression, ByteExpression, Block, IfStatement, IfElseStatement, LocktimeStatement, ExpressionStatement, []ᵇ, ◌∷ᵇ◌, BoolAnd, Equal, Greater, Less, Add as Sum, Negate, Not, Sha256, Segwit, Taproot, Factor, Factors, SingleSigFactor, MultiSigFactor, []ᶠ, ◌∷ᶠ◌, LocktimeOp, Cltv, Csv, CsvTime, Checked, Ok, Err, fault, DuplicateVariable, UndefinedVariable, VariableConsumed, UnusedVariable, InvalidConsumptionOrder, TypeMismatch, InvalidOperation, NoReturn, UnreachableCode, DeclarationPathMismatch, IntegerOverflow, MalformedPubkey, same, loc, place}
-use Rattle.rules.specs.Result.{Result, ok, err, answer}
+use Rattle.std.specs.Prelude.{Ok, Err}
+use Rattle.rules.specs.Ast.{Location, nowhere, Signed, Target, Legacy, ItemType, Signature, Number, String, Boolean, StackParam, Declaration, Contract, Expression, Variable, NumberLiteral, BooleanLiteral, StringLiteral, LogicalExpression, CompareExpression, UnaryMathExpression, BinaryMathExpression, UnaryCryptoExpression, CheckSigExpression, ByteExpression, Block, IfStatement, IfElseStatement, LocktimeStatement, ExpressionStatement, []ᵇ, ◌∷ᵇ◌, BoolAnd, Equal, Greater, Less, Add as Sum, Negate, Not, Sha256, Segwit, Taproot, Factor, Factors, SingleSigFactor, MultiSigFactor, []ᶠ, ◌∷ᶠ◌, LocktimeOp, Cltv, Csv, CsvTime, fault, DuplicateVariable, UndefinedVariable, VariableConsumed, UnusedVariable, InvalidConsumptionOrder, TypeMismatch, InvalidOperation, NoReturn, UnreachableCode, DeclarationPathMismatch, IntegerOverflow, MalformedPubkey, same, loc, place}
+use Rattle.rules.specs.Result.{Result, Checked, answer}
 use Rattle.rules.specs.Paths.{count}
 use Rattle.rules.specs.Flow.{flow, followed, goes_on}
 use Rattle.rules.specs.Table.{among, enter, build, build_all}
@@ -50,8 +51,8 @@ worked = record {
 
 -- the lines that took the items, path by path from the top
 unfoldable takers : Result Analysis → List (List (Option ℕ))
-takers (ok a) = map (map (λ e. e.taken)) a.tables
-takers (err x) = []
+takers (Ok a) = map (map (λ e. e.taken)) a.tables
+takers (Err x) = []
 
 worked-takers : takers (analyze worked) ≡ (some 10 ∷ some 15 ∷ []) ∷ (some 10 ∷ some 20 ∷ []) ∷ []
 unfolding takers analyze flow followed goes_on counted count build_all build enter among same walk examine_at examine table_at cross usage take take_entry free truth compared compare name_of literal_of loc signature key sig_key size inner inners threshold factor passed variable of_type type_of is_signature not_signature is_number is_string is_boolean is_not is_equality or17 ascii unary security or21 four_bytes element pushed is_hex all_digits is_digit within transfer placed run untaken hand hand_one unused used unused_all
@@ -109,16 +110,16 @@ inputs =
 
 abbrev results : List Checked
 results =
-    Ok ∷ Ok ∷ Err (fault IntegerOverflow (spot 3)) ∷ Err (fault IntegerOverflow (spot 3)) ∷
-    Ok ∷ Err (fault IntegerOverflow (spot 3)) ∷ Ok ∷ Err (fault IntegerOverflow (spot 3)) ∷ Err (fault IntegerOverflow (spot 3)) ∷
-    Ok ∷ Err (fault IntegerOverflow (spot 3)) ∷ Err (fault IntegerOverflow (spot 3)) ∷
-    Ok ∷ Err (fault IntegerOverflow (spot 3)) ∷ Err (fault IntegerOverflow (spot 3)) ∷ Ok ∷ Ok ∷ Err (fault IntegerOverflow (spot 3)) ∷
+    Ok tt ∷ Ok tt ∷ Err (fault IntegerOverflow (spot 3)) ∷ Err (fault IntegerOverflow (spot 3)) ∷
+    Ok tt ∷ Err (fault IntegerOverflow (spot 3)) ∷ Ok tt ∷ Err (fault IntegerOverflow (spot 3)) ∷ Err (fault IntegerOverflow (spot 3)) ∷
+    Ok tt ∷ Err (fault IntegerOverflow (spot 3)) ∷ Err (fault IntegerOverflow (spot 3)) ∷
+    Ok tt ∷ Err (fault IntegerOverflow (spot 3)) ∷ Err (fault IntegerOverflow (spot 3)) ∷ Ok tt ∷ Ok tt ∷ Err (fault IntegerOverflow (spot 3)) ∷
     Err (fault InvalidConsumptionOrder (spot 3)) ∷
     Err (fault VariableConsumed (spot 4)) ∷
     Err (fault UnusedVariable (spot 1)) ∷
-    Ok ∷
+    Ok tt ∷
     Err (fault DeclarationPathMismatch nowhere) ∷
-    Ok ∷
+    Ok tt ∷
     Err (fault NoReturn nowhere) ∷
     Err (fault UnreachableCode (spot 9)) ∷
     Err (fault DuplicateVariable (spot 1)) ∷
@@ -198,19 +199,19 @@ inputs₂ =
 
 abbrev results₂ : List Checked
 results₂ =
-    Ok ∷ Err (fault MalformedPubkey (spot 5)) ∷ Err (fault MalformedPubkey (spot 5)) ∷ Ok ∷ Err (fault MalformedPubkey (spot 5)) ∷ Err (fault MalformedPubkey (spot 5)) ∷
+    Ok tt ∷ Err (fault MalformedPubkey (spot 5)) ∷ Err (fault MalformedPubkey (spot 5)) ∷ Ok tt ∷ Err (fault MalformedPubkey (spot 5)) ∷ Err (fault MalformedPubkey (spot 5)) ∷
     Err (fault TypeMismatch (spot 5)) ∷
     Err (fault TypeMismatch (spot 4)) ∷
     Err (fault InvalidOperation (spot 4)) ∷
-    Ok ∷
+    Ok tt ∷
     Err (fault InvalidOperation (spot 3)) ∷
     Err (fault InvalidOperation (spot 3)) ∷
-    Ok ∷
+    Ok tt ∷
     Err (fault VariableConsumed (spot 5)) ∷
     Err (fault InvalidOperation (spot 4)) ∷
     Err (fault UndefinedVariable (spot 4)) ∷
     Err (fault InvalidOperation (spot 20)) ∷
-    Ok ∷
+    Ok tt ∷
     Err (fault InvalidOperation (spot 20)) ∷
     Err (fault InvalidOperation (spot 9)) ∷
     Err (fault InvalidOperation (spot 8)) ∷
@@ -218,11 +219,11 @@ results₂ =
     Err (fault InvalidOperation (spot 20)) ∷
     Err (fault InvalidOperation (spot 9)) ∷
     Err (fault NoReturn (spot 8)) ∷
-    Ok ∷
+    Ok tt ∷
     Err (fault InvalidOperation (spot 4)) ∷
     Err (fault DeclarationPathMismatch (spot 30)) ∷
     Err (fault DeclarationPathMismatch (spot 30)) ∷
-    Ok ∷
+    Ok tt ∷
     []
 
 edges₂ : map check inputs₂ ≡ results₂
@@ -231,8 +232,8 @@ edges₂ = refl
 
 -- the waits of an accepted contract, in listing order: bit 22 (4194304) is set for units of 512 seconds
 unfoldable waits_from : Result Analysis → List Wait
-waits_from (ok a) = a.waits
-waits_from (err x) = []
+waits_from (Ok a) = a.waits
+waits_from (Err x) = []
 
 abbrev waited : ℕ → LocktimeOp → ℕ → Block → Block
 waited n o k b = LocktimeStatement here n o (plus k) ∷ᵇ b

@@ -3,10 +3,11 @@ use Prim.Native.Nat.{ℕ, ◌+◌}
 use mathlib.Core.List.{List, [], ◌∷◌, ◌++◌, map}
 use mathlib.Core.Path.{◌≡◌, refl, sym, ◌∙◌, ap, ap₂}
 use lib.ListN.{length, length-append, length-map}
-use Rattle.rules.specs.Ast.{Location, Signed, LocktimeOp, Expression, Statement, Block, IfStatement, IfElseStatement, LocktimeStatement, VerifyStatement, ExpressionStatement, []ᵇ, ◌∷ᵇ◌, Ok}
+use Rattle.std.specs.Prelude.{Ok}
+use Rattle.rules.specs.Ast.{Location, Signed, LocktimeOp, Expression, Statement, Block, IfStatement, IfElseStatement, LocktimeStatement, VerifyStatement, ExpressionStatement, []ᵇ, ◌∷ᵇ◌}
 use Rattle.rules.specs.Paths.{Path, paths, through, count, count_through}
 use Rattle.rules.specs.Flow.{flow, flow_last, followed, goes_on}
-use Rattle.rules.proofs.Basics.{Err≢Ok, both_ok}
+use Rattle.rules.proofs.Basics.{both_ok}
 
 -- waits and verifies, and then a return, or an if with else whose two blocks are alike
 pub data Flows : Block → Type 0 where
@@ -24,31 +25,31 @@ ending : {s : Statement} → Ends s → Flows (s ∷ᵇ []ᵇ)
 ending (return l e) = returns l e
 ending (split l e f g) = splits l e f g
 
-joined : (s : Statement) (b : Block) → (flow_last s ≡ Ok → Ends s) → (flow b ≡ Ok → Flows b) → followed (goes_on s) b (flow_last s) (flow b) ≡ Ok → Flows (s ∷ᵇ b)
+joined : (s : Statement) (b : Block) → (flow_last s ≡ Ok tt → Ends s) → (flow b ≡ Ok tt → Flows b) → followed (goes_on s) b (flow_last s) (flow b) ≡ Ok tt → Flows (s ∷ᵇ b)
 unfolding followed goes_on
 joined s []ᵇ p q h = ending (p h)
-joined (IfStatement l e b₁) (s' ∷ᵇ b) p q h = absurd (Err≢Ok h)
-joined (IfElseStatement l e b₁ b₂) (s' ∷ᵇ b) p q h = absurd (Err≢Ok h)
+joined (IfStatement l e b₁) (s' ∷ᵇ b) p q h = cc
+joined (IfElseStatement l e b₁ b₂) (s' ∷ᵇ b) p q h = cc
 joined (LocktimeStatement l n o v) (s' ∷ᵇ b) p q h = waits l n o v (q h)
 joined (VerifyStatement l e) (s' ∷ᵇ b) p q h = verifies l e (q h)
-joined (ExpressionStatement l e) (s' ∷ᵇ b) p q h = absurd (Err≢Ok h)
+joined (ExpressionStatement l e) (s' ∷ᵇ b) p q h = cc
 
 mutual
   unfolding flow
 
-  pub flows : (b : Block) → flow b ≡ Ok → Flows b
-  flows []ᵇ h = absurd (Err≢Ok h)
+  pub flows : (b : Block) → flow b ≡ Ok tt → Flows b
+  flows []ᵇ h = cc
   flows (s ∷ᵇ b) h = joined s b (λ q. ends s q) (λ q. flows b q) h
 
-  ends : (s : Statement) → flow_last s ≡ Ok → Ends s
-  ends (IfStatement l e b) h = absurd (Err≢Ok h)
+  ends : (s : Statement) → flow_last s ≡ Ok tt → Ends s
+  ends (IfStatement l e b) h = cc
   ends (IfElseStatement l e b c) h = let p = both_ok (flow b) (flow c) h in split l e (flows b p.0) (flows c p.1)
-  ends (LocktimeStatement l n o v) h = absurd (Err≢Ok h)
-  ends (VerifyStatement l e) h = absurd (Err≢Ok h)
+  ends (LocktimeStatement l n o v) h = cc
+  ends (VerifyStatement l e) h = cc
   ends (ExpressionStatement l e) h = return l e
 
 -- the other way
-pub flows-ok : {b : Block} → Flows b → flow b ≡ Ok
+pub flows-ok : {b : Block} → Flows b → flow b ≡ Ok tt
 unfolding flow followed goes_on
 flows-ok (returns l e) = refl
 flows-ok (waits l n o v {b = []ᵇ} f) = elim f [ ]

@@ -6,15 +6,17 @@ use mathlib.Core.List.{List, [], ◌∷◌, ◌++◌, map, append-nil}
 use mathlib.Core.Option.{Option, some, none}
 use mathlib.Core.Path.{◌≡◌, refl, sym, ◌∙◌, ap, subst, subst₂}
 use lib.ListN.{length}
-use Rattle.rules.specs.Ast.{Name, same, Location, StackParam, Declaration, Ok, from_top}
-use Rattle.rules.specs.Result.{ok, ◌>>=◌}
+use Rattle.std.specs.Prelude.{Ok}
+use Rattle.std.proofs.lemmas.Bool.{and_parts}
+use Rattle.rules.specs.Ast.{Name, same, Location, StackParam, Declaration, from_top}
+use Rattle.rules.specs.Result.{◌>>=◌}
 use Rattle.rules.specs.Table.{Entry, Table, params, among, enter, build, build_all}
 use Rattle.rules.specs.Usage.{free}
 use Rattle.rules.specs.Transfer.{placed, untaken, run, hand, hand_one, transfer}
 use Rattle.rules.specs.Unused.{used, unused}
 use Rattle.rules.specs.Stack.{Met, stack}
 use Rattle.rules.specs.InOrder.{Absent, Distinct, DistinctAll}
-use Rattle.rules.proofs.Basics.{err≢ok, Err≢Ok, ok_ok, true≢false', bound, both_ok, and-true, same_true, same_refl, same_false, same_not, cons_head, cons_tail, nil≢cons'}
+use Rattle.rules.proofs.Basics.{Err≢Ok, true≢false', bound, both_ok, same_true, same_refl, same_false, same_not, Ok-injective}
 use Rattle.rules.proofs.State.{idents, names_of, Taken, Fresh, Takes, State, met_names, met_names-append, taken_of, named-of, left-names}
 use Rattle.rules.proofs.Each.{Each, each-length}
 
@@ -54,12 +56,12 @@ hand_one-param (some m) c = refl
 -- what was placed is taken over: the run of the first table becomes the run of the second, in which no more was taken before
 placed-rest : (e c : Entry) (t n : Table) → placed (e ∷ t) (c ∷ n) ≡ true → placed t n ≡ true
 unfolding placed
-placed-rest e c t n h = (and-true (free e.taken || same e.param.identifier c.param.identifier) (placed t n) h).1
+placed-rest e c t n h = (and_parts (free e.taken || same e.param.identifier c.param.identifier) (placed t n) h).1
 
 hand-cons : (v : Met) (ks : List Met) (e c : Entry) (done left n : Table) → Each Takes (v ∷ ks) (e ∷ done) → placed ((e ∷ done) ++ left) (c ∷ n) ≡ true → State ks (hand (done ++ left) n) → State (v ∷ ks) (hand ((e ∷ done) ++ left) (c ∷ n))
 unfolding placed hand hand_one free
 hand-cons v ks e c done left n k h s =
-    let a = and-true (free e.taken || same e.param.identifier c.param.identifier) (placed (done ++ left) n) h in
+    let a = and_parts (free e.taken || same e.param.identifier c.param.identifier) (placed (done ++ left) n) h in
     let q : same e.param.identifier c.param.identifier ≡ true = subst (λ o. (free o || same e.param.identifier c.param.identifier) ≡ true) k.0.1 a.0 in
     record {
       done = hand_one e.taken c ∷ s.done;
@@ -75,7 +77,7 @@ handed [] [] left [] l k f u g n h = record { done = []; left = l; is = hand-fre
 handed [] [] left (c ∷ d) l k f u g n h = absurd (omega arith)
 handed [] (e ∷ done) left d l k f u g n h = absurd k
 handed (v ∷ ks) [] left d l k f u g n h = absurd k
-handed (v ∷ ks) (e ∷ done) left [] [] k f u g n h = absurd (true≢false' (and-true _ _ h).0 (ap free k.0.1))
+handed (v ∷ ks) (e ∷ done) left [] [] k f u g n h = absurd (true≢false' (and_parts _ _ h).0 (ap free k.0.1))
 handed (v ∷ ks) (e ∷ done) left [] (c ∷ l) k f u g n h = hand-cons v ks e c done left l k h (handed ks done left [] l k.1 f tt g.1 (omega arith) (placed-rest e c (done ++ left) l h))
 handed (v ∷ ks) (e ∷ done) left (c ∷ d) l k f u g n h = hand-cons v ks e c done left (d ++ l) k h (handed ks done left d l k.1 f u.1 g (omega arith) (placed-rest e c (done ++ left) (d ++ l) h))
 
@@ -88,26 +90,28 @@ placed-fresh (e ∷ t) (c ∷ n) f = rw f.0 (placed-fresh t n f.1)
 placed-can : (done left n : Table) (xs : List Name) → Taken done → Fresh left → names_of n ≡ names_of done ++ xs → placed (done ++ left) n ≡ true
 unfolding placed free
 placed-can [] left n xs d f h = placed-fresh left n f
-placed-can (e ∷ done) left [] xs d f h = absurd (nil≢cons' h)
+placed-can (e ∷ done) left [] xs d f h = cc
 placed-can (e ∷ done) left (c ∷ n) xs d f h =
-    rw d.0.1 (rw (cons_head h) (rw (same_refl e.param.identifier) (placed-can done left n xs d.1 f (cons_tail h))))
+    let head : c.param.identifier ≡ e.param.identifier = cc in
+    let tail : names_of n ≡ names_of done ++ xs = cc in
+    rw d.0.1 (rw head (rw (same_refl e.param.identifier) (placed-can done left n xs d.1 f tail)))
 
 -- a transfer that passes: the same variables have taken the next table's items
-pub transfer-sound : (l : Location) (ks₀ ks : List Met) (t n n' : Table) → State ks t → State ks₀ n → length ks₀ ≤ length ks → transfer l t n ≡ ok n' → State ks n' × (params n' ≡ params n)
+pub transfer-sound : (l : Location) (ks₀ ks : List Met) (t n n' : Table) → State ks t → State ks₀ n → length ks₀ ≤ length ks → transfer l t n ≡ Ok n' → State ks n' × (params n' ≡ params n)
 unfolding transfer
 transfer-sound l ks₀ ks t n n' s r i h = go (placed t n && run t) refl
   where
     go : (b : Bool) → (placed t n && run t) ≡ b → State ks n' × (params n' ≡ params n)
     go true q =
-        let e : hand t n ≡ n' = ok_ok (rw (q, transfer) at h) in
-        let p : placed (s.done ++ s.left) (r.done ++ r.left) ≡ true = subst₂ (λ u v. placed u v ≡ true) s.is r.is (and-true _ _ q).0 in
+        let e : hand t n ≡ n' = Ok-injective (rw (q, transfer) at h) in
+        let p : placed (s.done ++ s.left) (r.done ++ r.left) ≡ true = subst₂ (λ u v. placed u v ≡ true) s.is r.is (and_parts _ _ q).0 in
         let j : length r.done ≤ length ks = omega (arith, each-length Takes ks₀ r.done r.by) in
         let k = handed ks s.done s.left r.done r.left s.by s.fresh (taken_of ks₀ r.done r.by) r.fresh j p in
         (subst (State ks) e (subst₂ (λ u v. State ks (hand u v)) (sym s.is) (sym r.is) k), ap params (sym e) ∙ hand-params t n)
-    go false q = absurd (err≢ok (rw (q, transfer) at h))
+    go false q = absurd (Err≢Ok (rw (q, transfer) at h))
 
 -- a transfer passes if the names taken are the next table's first ones
-pub transfer-can : (l : Location) (ks xs : List Met) (t n : Table) → State ks t → names_of n ≡ met_names (ks ++ xs) → (n' : Table) × (transfer l t n ≡ ok n')
+pub transfer-can : (l : Location) (ks xs : List Met) (t n : Table) → State ks t → names_of n ≡ met_names (ks ++ xs) → (n' : Table) × (transfer l t n ≡ Ok n')
 unfolding transfer
 transfer-can l ks xs t n s h =
     let d = taken_of ks s.done s.by in
@@ -153,31 +157,31 @@ pub record Built (ps : List StackParam) (t : Table) : Type 0 where
   pub fresh : Fresh t
   pub distinct : Distinct (idents ps)
 
-enter-sound : (ys : List Name) (ps : List StackParam) (t : Table) → enter ys ps ≡ ok t → Built ps t × Apart (idents ps) ys
+enter-sound : (ys : List Name) (ps : List StackParam) (t : Table) → enter ys ps ≡ Ok t → Built ps t × Apart (idents ps) ys
 unfolding enter
-enter-sound ys [] t h = (record { of = ap params (sym (ok_ok h)); fresh = subst Fresh (ok_ok h) tt; distinct = tt }, tt)
+enter-sound ys [] t h = (record { of = ap params (sym (Ok-injective h)); fresh = subst Fresh (Ok-injective h) tt; distinct = tt }, tt)
 enter-sound ys (p ∷ ps) t h = go (among p.identifier ys) refl (λ t'. enter-sound (p.identifier ∷ ys) ps t')
   where
-    go : (b : Bool) → among p.identifier ys ≡ b → ((t' : Table) → enter (p.identifier ∷ ys) ps ≡ ok t' → Built ps t' × Apart (idents ps) (p.identifier ∷ ys)) → Built (p ∷ ps) t × Apart (idents (p ∷ ps)) ys
-    go true q k = absurd (err≢ok (rw (q, enter) at h))
+    go : (b : Bool) → among p.identifier ys ≡ b → ((t' : Table) → enter (p.identifier ∷ ys) ps ≡ Ok t' → Built ps t' × Apart (idents ps) (p.identifier ∷ ys)) → Built (p ∷ ps) t × Apart (idents (p ∷ ps)) ys
+    go true q k = absurd (Err≢Ok (rw (q, enter) at h))
     go false q k =
-        let b = bound (enter (p.identifier ∷ ys) ps) (λ t'. ok (record { param = p; taken = none } ∷ t')) (rw (q, enter) at h) in
+        let b = bound (enter (p.identifier ∷ ys) ps) (λ t'. Ok (record { param = p; taken = none } ∷ t')) (rw (q, enter) at h) in
         let r = k b.value b.first in
         let a = apart-split p.identifier (idents ps) ys r.1 in (
           record {
-            of = ap params (sym (ok_ok b.then)) ∙ ap (p ∷◌) r.0.of;
-            fresh = subst Fresh (ok_ok b.then) (refl, r.0.fresh);
+            of = ap params (sym (Ok-injective b.then)) ∙ ap (p ∷◌) r.0.of;
+            fresh = subst Fresh (Ok-injective b.then) (refl, r.0.fresh);
             distinct = (a.0, r.0.distinct);
           },
           (among-false p.identifier ys q, a.1),
         )
 
-enter-can : (ys : List Name) (ps : List StackParam) → Distinct (idents ps) → Apart (idents ps) ys → (t : Table) × (enter ys ps ≡ ok t)
+enter-can : (ys : List Name) (ps : List StackParam) → Distinct (idents ps) → Apart (idents ps) ys → (t : Table) × (enter ys ps ≡ Ok t)
 unfolding enter
 enter-can ys [] d a = ([], refl)
 enter-can ys (p ∷ ps) d a =
     let r = enter-can (p.identifier ∷ ys) ps d.1 (apart-join p.identifier (idents ps) ys d.0 a.1) in
-    (record { param = p; taken = none } ∷ r.0, rw (absent-among p.identifier ys a.0, enter) (ap (λ m. m >>= λ t. ok (record { param = p; taken = none } ∷ t)) r.1))
+    (record { param = p; taken = none } ∷ r.0, rw (absent-among p.identifier ys a.0, enter) (ap (λ m. m >>= λ t. Ok (record { param = p; taken = none } ∷ t)) r.1))
 
 -- every table begins with the items of ks₀ taken
 abbrev pub Begun : List Met → List Table → Type 0
@@ -201,21 +205,21 @@ pub record BuiltAll (ds : List Declaration) (ts : List Table) : Type 0 where
   pub fresh : FreshAll ts
   pub distinct : DistinctAll ds
 
-pub build_all-sound : (ds : List Declaration) (ts : List Table) → build_all ds ≡ ok ts → BuiltAll ds ts
+pub build_all-sound : (ds : List Declaration) (ts : List Table) → build_all ds ≡ Ok ts → BuiltAll ds ts
 unfolding build_all build
-build_all-sound [] ts h = record { of = ap (map params) (sym (ok_ok h)); fresh = subst FreshAll (ok_ok h) tt; distinct = tt }
+build_all-sound [] ts h = record { of = ap (map params) (sym (Ok-injective h)); fresh = subst FreshAll (Ok-injective h) tt; distinct = tt }
 build_all-sound (d ∷ ds) ts h =
-    let b = bound (build d) (λ t. build_all ds >>= λ ts'. ok (t ∷ ts')) h in
-    let c = bound (build_all ds) (λ ts'. ok (b.value ∷ ts')) b.then in
+    let b = bound (build d) (λ t. build_all ds >>= λ ts'. Ok (t ∷ ts')) h in
+    let c = bound (build_all ds) (λ ts'. Ok (b.value ∷ ts')) b.then in
     let r = enter-sound [] (from_top d) b.value b.first in
     let k = build_all-sound ds c.value c.first in
     record {
-      of = ap (map params) (sym (ok_ok c.then)) ∙ ap (◌∷ map params c.value) r.0.of ∙ ap (from_top d ∷◌) k.of;
-      fresh = subst FreshAll (ok_ok c.then) (r.0.fresh, k.fresh);
+      of = ap (map params) (sym (Ok-injective c.then)) ∙ ap (◌∷ map params c.value) r.0.of ∙ ap (from_top d ∷◌) k.of;
+      fresh = subst FreshAll (Ok-injective c.then) (r.0.fresh, k.fresh);
       distinct = (r.0.distinct, k.distinct);
     }
 
-pub build_all-can : (ds : List Declaration) → DistinctAll ds → (ts : List Table) × (build_all ds ≡ ok ts)
+pub build_all-can : (ds : List Declaration) → DistinctAll ds → (ts : List Table) × (build_all ds ≡ Ok ts)
 unfolding build_all build
 build_all-can [] u = ([], refl)
 build_all-can (d ∷ ds) u =
@@ -224,27 +228,27 @@ build_all-can (d ∷ ds) u =
     (r.0 ∷ k.0, rw r.1 (rw k.1 refl))
 
 -- nothing left unused: the names taken are all the names
-unused-left : (done left : Table) → Fresh left → unused (done ++ left) ≡ Ok → left ≡ []
+unused-left : (done left : Table) → Fresh left → unused (done ++ left) ≡ Ok tt → left ≡ []
 unfolding unused used
 unused-left [] [] f h = refl
 unused-left [] (e ∷ left) f h = absurd (Err≢Ok (rw f.0 at (both_ok (unused left) (used e.param.loc e.taken) h).1))
 unused-left (e ∷ done) left f h = unused-left done left f (both_ok (unused (done ++ left)) (used e.param.loc e.taken) h).0
 
-pub unused-sound : (ks : List Met) (t : Table) → State ks t → unused t ≡ Ok → Each Takes ks t
+pub unused-sound : (ks : List Met) (t : Table) → State ks t → unused t ≡ Ok tt → Each Takes ks t
 unused-sound ks t s h =
-    let q = unused-left s.done s.left s.fresh (subst (λ u. unused u ≡ Ok) s.is h) in
+    let q = unused-left s.done s.left s.fresh (subst (λ u. unused u ≡ Ok tt) s.is h) in
     subst (Each Takes ks) (sym (s.is ∙ ap (s.done ++◌) q ∙ append-nil s.done)) s.by
 
-unused-taken : (t : Table) → Taken t → unused t ≡ Ok
+unused-taken : (t : Table) → Taken t → unused t ≡ Ok tt
 unfolding unused used
 unused-taken [] k = refl
 unused-taken (e ∷ t) k = rw (unused-taken t k.1) (rw k.0.1 refl)
 
 no_names : (t : Table) → names_of t ≡ [] → t ≡ []
 no_names [] h = refl
-no_names (e ∷ t) h = absurd (nil≢cons' (sym h))
+no_names (e ∷ t) h = cc
 
-pub unused-can : (ks : List Met) (t : Table) → State ks t → names_of t ≡ met_names ks → unused t ≡ Ok
+pub unused-can : (ks : List Met) (t : Table) → State ks t → names_of t ≡ met_names ks → unused t ≡ Ok tt
 unused-can ks t s h =
     let q = no_names s.left (left-names ks [] t s (h ∙ ap met_names (sym (append-nil ks)))) in
-    subst (λ u. unused u ≡ Ok) (sym (s.is ∙ ap (s.done ++◌) q ∙ append-nil s.done)) (unused-taken s.done (taken_of ks s.done s.by))
+    subst (λ u. unused u ≡ Ok tt) (sym (s.is ∙ ap (s.done ++◌) q ∙ append-nil s.done)) (unused-taken s.done (taken_of ks s.done s.by))

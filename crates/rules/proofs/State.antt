@@ -4,13 +4,15 @@ use mathlib.Core.Bool.{Bool, true, false}
 use mathlib.Core.List.{List, [], ◌∷◌, ◌++◌, map, append_assoc, append-nil}
 use mathlib.Core.Option.{some, none}
 use mathlib.Core.Path.{◌≡◌, refl, sym, ◌∙◌, ap, ap₂, subst}
+use Rattle.std.specs.Prelude.{Ok}
+use Rattle.std.proofs.lemmas.List.{append_cancel_left, map-append}
 use Rattle.rules.specs.Ast.{Name, same, Location, StackParam}
-use Rattle.rules.specs.Result.{Result, ok, ◌>>=◌}
+use Rattle.rules.specs.Result.{Result, ◌>>=◌}
 use Rattle.rules.specs.Table.{Entry, Table, params}
 use Rattle.rules.specs.Usage.{take, take_entry, free, mark}
 use Rattle.rules.specs.Stack.{Met}
 use Rattle.rules.specs.InOrder.{Absent, Distinct}
-use Rattle.rules.proofs.Basics.{err≢ok, ok_ok, bound, same_true, same_refl, same_not, map-append, cons_head, cons_tail, nil≢cons'}
+use Rattle.rules.proofs.Basics.{bound, same_true, same_refl, same_not, Err≢Ok, Ok-injective}
 use Rattle.rules.proofs.Each.{Each, each_append}
 
 -- the names of a declaration, and of a table, from the top
@@ -67,14 +69,14 @@ pub names_of-append : (a b : Table) → names_of (a ++ b) ≡ names_of a ++ name
 names_of-append a b = ap idents (params-append a b) ∙ map-append (λ p. p.identifier) (params a) (params b)
 
 -- a free item above: a later one is never taken
-gapped : (l : Location) (n : ℕ) (x : Name) (t t' : Table) → Fresh t → take true l n x t ≡ ok t' → ⊥
+gapped : (l : Location) (n : ℕ) (x : Name) (t t' : Table) → Fresh t → take true l n x t ≡ Ok t' → ⊥
 unfolding take take_entry
-gapped l n x [] t' f h = err≢ok h
+gapped l n x [] t' f h = cc
 gapped l n x (e ∷ t) t' f h = go (same x e.param.identifier) refl (λ t''. gapped l n x t t'' f.1)
   where
-    go : (b : Bool) → same x e.param.identifier ≡ b → ((t'' : Table) → take true l n x t ≡ ok t'' → ⊥) → ⊥
-    go true q k = err≢ok (rw f.0 at (rw (q, take) at h))
-    go false q k = let b = bound (take true l n x t) (λ t''. ok (e ∷ t'')) (rw (q, take) at h) in k b.value b.first
+    go : (b : Bool) → same x e.param.identifier ≡ b → ((t'' : Table) → take true l n x t ≡ Ok t'' → ⊥) → ⊥
+    go true q k = Err≢Ok (rw f.0 at (rw (q, take) at h))
+    go false q k = let b = bound (take true l n x t) (λ t''. Ok (e ∷ t'')) (rw (q, take) at h) in k b.value b.first
 
 pub record Took (l : Location) (n : ℕ) (x : Name) (left new : Table) : Type 0 where
   pub top : Entry
@@ -84,27 +86,27 @@ pub record Took (l : Location) (n : ℕ) (x : Name) (left new : Table) : Type 0 
   pub name : x ≡ top.param.identifier
 
 -- what can be taken is the item right below the run
-pub take-sound : (l : Location) (n : ℕ) (x : Name) (done left t' : Table) → Taken done → Fresh left → take false l n x (done ++ left) ≡ ok t' → (new : Table) × (t' ≡ done ++ new) × Took l n x left new
+pub take-sound : (l : Location) (n : ℕ) (x : Name) (done left t' : Table) → Taken done → Fresh left → take false l n x (done ++ left) ≡ Ok t' → (new : Table) × (t' ≡ done ++ new) × Took l n x left new
 unfolding take take_entry free
-take-sound l n x [] [] t' d f h = absurd (err≢ok h)
+take-sound l n x [] [] t' d f h = cc
 take-sound l n x [] (e ∷ t) t' d f h = go (same x e.param.identifier) refl
   where
     go : (b : Bool) → same x e.param.identifier ≡ b → (new : Table) × (t' ≡ new) × Took l n x (e ∷ t) new
-    go true q = (mark n e ∷ t, sym (ok_ok (rw f.0 at (rw (q, take) at h))), record { top = e; rest = t; was = refl; is = refl; name = same_true _ _ q })
+    go true q = (mark n e ∷ t, sym (Ok-injective (rw f.0 at (rw (q, take) at h))), record { top = e; rest = t; was = refl; is = refl; name = same_true _ _ q })
     go false q =
-        let b = bound (take (free e.taken) l n x t) (λ t''. ok (e ∷ t'')) (rw (q, take) at h) in
-        absurd (gapped l n x t b.value f.1 (subst (λ o. take (free o) l n x t ≡ ok b.value) f.0 b.first))
+        let b = bound (take (free e.taken) l n x t) (λ t''. Ok (e ∷ t'')) (rw (q, take) at h) in
+        absurd (gapped l n x t b.value f.1 (subst (λ o. take (free o) l n x t ≡ Ok b.value) f.0 b.first))
 take-sound l n x (e ∷ done) left t' d f h = go (same x e.param.identifier) refl (λ t''. take-sound l n x done left t'' d.1 f)
   where
-    go : (b : Bool) → same x e.param.identifier ≡ b → ((t'' : Table) → take false l n x (done ++ left) ≡ ok t'' → (new : Table) × (t'' ≡ done ++ new) × Took l n x left new) → (new : Table) × (t' ≡ e ∷ (done ++ new)) × Took l n x left new
-    go true q k = absurd (err≢ok (rw d.0.1 at (rw (q, take) at h)))
+    go : (b : Bool) → same x e.param.identifier ≡ b → ((t'' : Table) → take false l n x (done ++ left) ≡ Ok t'' → (new : Table) × (t'' ≡ done ++ new) × Took l n x left new) → (new : Table) × (t' ≡ e ∷ (done ++ new)) × Took l n x left new
+    go true q k = absurd (Err≢Ok (rw d.0.1 at (rw (q, take) at h)))
     go false q k =
-        let b = bound (take (free e.taken) l n x (done ++ left)) (λ t''. ok (e ∷ t'')) (rw (q, take) at h) in
-        let r = k b.value (subst (λ o. take (free o) l n x (done ++ left) ≡ ok b.value) d.0.1 b.first) in
-        (r.0, sym (ok_ok b.then) ∙ ap (e ∷◌) r.1, r.2)
+        let b = bound (take (free e.taken) l n x (done ++ left)) (λ t''. Ok (e ∷ t'')) (rw (q, take) at h) in
+        let r = k b.value (subst (λ o. take (free o) l n x (done ++ left) ≡ Ok b.value) d.0.1 b.first) in
+        (r.0, sym (Ok-injective b.then) ∙ ap (e ∷◌) r.1, r.2)
 
 -- the item right below the run can be taken
-pub take-complete : (l : Location) (n : ℕ) (done rest : Table) (top : Entry) → Taken done → top.taken ≡ none → Absent top.param.identifier (names_of done) → take false l n top.param.identifier (done ++ top ∷ rest) ≡ ok (done ++ mark n top ∷ rest)
+pub take-complete : (l : Location) (n : ℕ) (done rest : Table) (top : Entry) → Taken done → top.taken ≡ none → Absent top.param.identifier (names_of done) → take false l n top.param.identifier (done ++ top ∷ rest) ≡ Ok (done ++ mark n top ∷ rest)
 unfolding take take_entry free
 take-complete l n [] rest top d f a = rw (same_refl top.param.identifier, take) (rw f refl)
 take-complete l n (e ∷ done) rest top d f a =
@@ -122,7 +124,7 @@ absent-last (z ∷ xs) ys x d = (λ q. apart xs d.0 (sym q), absent-last xs ys x
 
 -- the variables one after the other
 abbrev pub take_all : List Met → Table → Result Table
-take_all [] t = ok t
+take_all [] t = Ok t
 take_all (v ∷ vs) t = take false v.loc v.line v.name t >>= λ t'. take_all vs t'
 
 -- one more item of the run
@@ -138,15 +140,15 @@ step-state v ks done left new t' d f q o = record {
 step-params : (l : Location) (n : ℕ) (x : Name) (done left new : Table) → Took l n x left new → params (done ++ new) ≡ params (done ++ left)
 step-params l n x done left new o = params-append done new ∙ ap (λ u. params done ++ params u) o.is ∙ ap (λ u. params done ++ params u) (sym o.was) ∙ sym (params-append done left)
 
-pub take-state : (v : Met) (ks : List Met) (t t' : Table) → State ks t → take false v.loc v.line v.name t ≡ ok t' → State (ks ++ (v ∷ [])) t' × (params t' ≡ params t)
+pub take-state : (v : Met) (ks : List Met) (t t' : Table) → State ks t → take false v.loc v.line v.name t ≡ Ok t' → State (ks ++ (v ∷ [])) t' × (params t' ≡ params t)
 take-state v ks t t' s h =
     let k = take-sound v.loc v.line v.name s.done s.left t' (taken_of ks s.done s.by) s.fresh (rw s.is at h) in (
       step-state v ks s.done s.left k.0 t' s.by s.fresh k.1 k.2,
       ap params k.1 ∙ step-params v.loc v.line v.name s.done s.left k.0 k.2 ∙ ap params (sym s.is),
     )
 
-pub take_all-sound : (vs ks : List Met) (t t' : Table) → State ks t → take_all vs t ≡ ok t' → State (ks ++ vs) t' × (params t' ≡ params t)
-take_all-sound [] ks t t' s h = (rw append-nil (rw (ok_ok h) at s), ap params (sym (ok_ok h)))
+pub take_all-sound : (vs ks : List Met) (t t' : Table) → State ks t → take_all vs t ≡ Ok t' → State (ks ++ vs) t' × (params t' ≡ params t)
+take_all-sound [] ks t t' s h = (rw append-nil (rw (Ok-injective h) at s), ap params (sym (Ok-injective h)))
 take_all-sound (v ∷ vs) ks t t' s h =
     let b = bound (take false v.loc v.line v.name t) (λ t''. take_all vs t'') h in
     let o = take-state v ks t b.value s b.first in
@@ -155,18 +157,14 @@ take_all-sound (v ∷ vs) ks t t' s h =
 
 -- a table with names left has a top item
 top_of : (left : Table) (x : Name) (xs : List Name) → names_of left ≡ x ∷ xs → (e : Entry) × (r : Table) × (left ≡ e ∷ r) × (e.param.identifier ≡ x)
-top_of [] x xs h = absurd (nil≢cons' h)
-top_of (e ∷ r) x xs h = (e, r, refl, cons_head h)
-
-append-cancel : (xs : List Name) {ys zs : List Name} → xs ++ ys ≡ xs ++ zs → ys ≡ zs
-append-cancel [] h = h
-append-cancel (x ∷ xs) h = append-cancel xs (cons_tail h)
+top_of [] x xs h = cc
+top_of (e ∷ r) x xs h = (e, r, refl, cc)
 
 -- the names below the run, from the names of all
 pub left-names : (ks xs : List Met) (t : Table) (s : State ks t) → names_of t ≡ met_names (ks ++ xs) → names_of s.left ≡ met_names xs
-left-names ks xs t s h = append-cancel (met_names ks) (ap (◌++ names_of s.left) (sym (named-of ks s.done s.by)) ∙ sym (names_of-append s.done s.left) ∙ ap names_of (sym s.is) ∙ h ∙ met_names-append ks xs)
+left-names ks xs t s h = append_cancel_left (met_names ks) _ _ (ap (◌++ names_of s.left) (sym (named-of ks s.done s.by)) ∙ sym (names_of-append s.done s.left) ∙ ap names_of (sym s.is) ∙ h ∙ met_names-append ks xs)
 
-pub take-can : (v : Met) (ks xs : List Met) (t : Table) → State ks t → Distinct (names_of t) → names_of t ≡ met_names (ks ++ v ∷ xs) → (t' : Table) × (take false v.loc v.line v.name t ≡ ok t')
+pub take-can : (v : Met) (ks xs : List Met) (t : Table) → State ks t → Distinct (names_of t) → names_of t ≡ met_names (ks ++ v ∷ xs) → (t' : Table) × (take false v.loc v.line v.name t ≡ Ok t')
 take-can v ks xs t s d h =
     let k = top_of s.left v.name (met_names xs) (left-names ks (v ∷ xs) t s h) in
     let a : Absent v.name (met_names ks) = absent-last (met_names ks) (met_names xs) v.name (subst Distinct (h ∙ met_names-append ks (v ∷ xs)) d) in
@@ -175,11 +173,11 @@ take-can v ks xs t s d h =
     let r = take-complete v.loc v.line s.done k.1 k.0 (taken_of ks s.done s.by) f.0 a' in
     (s.done ++ mark v.line k.0 ∷ k.1, ap (take false v.loc v.line v.name) (s.is ∙ ap (s.done ++◌) k.2) ∙ ap (λ y. take false v.loc v.line y (s.done ++ k.0 ∷ k.1)) (sym k.3) ∙ r)
 
-pub take_all-can : (vs ks xs : List Met) (t : Table) → State ks t → Distinct (names_of t) → names_of t ≡ met_names (ks ++ (vs ++ xs)) → (t' : Table) × (take_all vs t ≡ ok t')
+pub take_all-can : (vs ks xs : List Met) (t : Table) → State ks t → Distinct (names_of t) → names_of t ≡ met_names (ks ++ (vs ++ xs)) → (t' : Table) × (take_all vs t ≡ Ok t')
 take_all-can [] ks xs t s d h = (t, refl)
 take_all-can (v ∷ vs) ks xs t s d h =
     let k = take-can v ks (vs ++ xs) t s d h in
     let o = take-state v ks t k.0 s k.1 in
     let q : names_of k.0 ≡ names_of t = ap idents o.1 in
     let r = take_all-can vs (ks ++ (v ∷ [])) xs k.0 o.0 (subst Distinct (sym q) d) (q ∙ h ∙ ap met_names (sym (append_assoc ks (v ∷ []) (vs ++ xs)))) in
-    (r.0, subst (λ m. (m >>= λ t'. take_all vs t') ≡ ok r.0) (sym k.1) r.1)
+    (r.0, subst (λ m. (m >>= λ t'. take_all vs t') ≡ Ok r.0) (sym k.1) r.1)

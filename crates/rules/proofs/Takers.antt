@@ -2,8 +2,9 @@
 use Prim.Native.Nat.{ℕ}
 use mathlib.Core.List.{List, [], ◌∷◌, ◌++◌}
 use mathlib.Core.Option.{some, none}
+use Rattle.std.specs.Prelude.{Ok, Err}
 use Rattle.rules.specs.Ast.{StackParam, Declaration, Contract, from_top, Statement, Block, IfStatement, IfElseStatement, LocktimeStatement, VerifyStatement, ExpressionStatement, []ᵇ, ◌∷ᵇ◌}
-use Rattle.rules.specs.Result.{Result, ok, err}
+use Rattle.rules.specs.Result.{Result}
 use Rattle.rules.specs.Paths.{Path, paths}
 use Rattle.rules.specs.Limits.{wait}
 use Rattle.rules.specs.Table.{Table}
@@ -28,8 +29,8 @@ finals c = final_all c.declarations (paths c.block)
 
 -- the wait of a listing line, if it is within its bounds
 abbrev pub noted : ℕ → Result ℕ → List Wait
-noted n (ok k) = record { line = n; number = k } ∷ []
-noted n (err x) = []
+noted n (Ok k) = record { line = n; number = k } ∷ []
+noted n (Err x) = []
 
 -- the waits of a block in listing order
 unfoldable mutual

@@ -1,10 +1,11 @@
 -- Types in order, with the declarations of the paths to come in place of a path number.
 use Prim.Native.Nat.{ℕ, zero, suc, ◌+◌}
-use native.Mathlib.Omega.{arith}
 use mathlib.Core.List.{List, [], ◌∷◌, map}
-use mathlib.Core.Path.{◌≡◌, refl, sym, ◌∙◌, ap}
+use mathlib.Core.Path.{◌≡◌, refl, ◌∙◌, ap}
 use lib.ListN.{drop}
-use Rattle.rules.specs.Ast.{Target, StackParam, Declaration, from_top, Expression, Statement, Block, IfStatement, IfElseStatement, LocktimeStatement, VerifyStatement, ExpressionStatement, []ᵇ, ◌∷ᵇ◌, Ok}
+use Rattle.std.specs.Prelude.{Ok}
+use Rattle.std.proofs.lemmas.List.{drop-drop}
+use Rattle.rules.specs.Ast.{Target, StackParam, Declaration, from_top, Expression, Statement, Block, IfStatement, IfElseStatement, LocktimeStatement, VerifyStatement, ExpressionStatement, []ᵇ, ◌∷ᵇ◌}
 use Rattle.rules.specs.Paths.{count}
 use Rattle.rules.specs.Types.{truth}
 use Rattle.rules.specs.InOrder.{declared, Typed, TypedStatement}
@@ -16,11 +17,11 @@ lowest (d ∷ ds) = d
 
 unfoldable mutual
   pub TypedOnStatement : Statement → Target → List (List StackParam) → Type 0
-  TypedOnStatement (IfStatement l e b) g ds = (truth e g (lowest ds) ≡ Ok) × TypedOn b g ds
-  TypedOnStatement (IfElseStatement l e b c) g ds = (truth e g (lowest ds) ≡ Ok) × TypedOn b g ds × TypedOn c g (drop (count b) ds)
+  TypedOnStatement (IfStatement l e b) g ds = (truth e g (lowest ds) ≡ Ok tt) × TypedOn b g ds
+  TypedOnStatement (IfElseStatement l e b c) g ds = (truth e g (lowest ds) ≡ Ok tt) × TypedOn b g ds × TypedOn c g (drop (count b) ds)
   TypedOnStatement (LocktimeStatement l n o v) g ds = Unit {0}
-  TypedOnStatement (VerifyStatement l e) g ds = truth e g (lowest ds) ≡ Ok
-  TypedOnStatement (ExpressionStatement l e) g ds = truth e g (lowest ds) ≡ Ok
+  TypedOnStatement (VerifyStatement l e) g ds = truth e g (lowest ds) ≡ Ok tt
+  TypedOnStatement (ExpressionStatement l e) g ds = truth e g (lowest ds) ≡ Ok tt
 
   pub TypedOn : Block → Target → List (List StackParam) → Type 0
   TypedOn []ᵇ g ds = Unit {0}
@@ -32,17 +33,8 @@ lowest-drop [] (suc n) = refl
 lowest-drop (d ∷ ds) zero = refl
 lowest-drop (d ∷ ds) (suc n) = lowest-drop ds n
 
-drop-nil : {A : Type 0} (n : ℕ) → drop {A = A} n [] ≡ []
-drop-nil zero = refl
-drop-nil (suc n) = refl
-
-drop-drop : {A : Type 0} (m n : ℕ) (xs : List A) → drop m (drop n xs) ≡ drop (n + m) xs
-drop-drop m zero xs = let e : m ≡ 0 + m = omega arith in ap (λ k. drop k xs) e
-drop-drop m (suc n) [] = drop-nil m ∙ sym (drop-nil (suc n + m))
-drop-drop m (suc n) (x ∷ xs) = let e : suc (n + m) ≡ suc n + m = omega arith in drop-drop m n xs ∙ ap (λ k. drop k (x ∷ xs)) e
-
-passes-eq : (e : Expression) (g : Target) (ds : List Declaration) (n : ℕ) → (truth e g (lowest (drop n (map from_top ds))) ≡ Ok) ≡ (truth e g (declared ds n) ≡ Ok)
-passes-eq e g ds n = ap (λ ps. truth e g ps ≡ Ok) (lowest-drop ds n)
+passes-eq : (e : Expression) (g : Target) (ds : List Declaration) (n : ℕ) → (truth e g (lowest (drop n (map from_top ds))) ≡ Ok tt) ≡ (truth e g (declared ds n) ≡ Ok tt)
+passes-eq e g ds n = ap (λ ps. truth e g ps ≡ Ok tt) (lowest-drop ds n)
 
 -- the two say the same
 mutual

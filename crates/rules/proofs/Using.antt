@@ -1,8 +1,9 @@
 -- check_variable takes the variables that the expression meets, one after the other.
 use mathlib.Core.List.{List, [], ◌∷◌, ◌++◌}
 use mathlib.Core.Path.{◌≡◌, refl, sym, ◌∙◌, ap}
+use Rattle.std.specs.Prelude.{Ok, Err}
 use Rattle.rules.specs.Ast.{Expression, Factor, Factors, Variable, NumberLiteral, BooleanLiteral, StringLiteral, LogicalExpression, CompareExpression, UnaryMathExpression, BinaryMathExpression, UnaryCryptoExpression, CheckSigExpression, ByteExpression, SingleSigFactor, MultiSigFactor, []ᶠ, ◌∷ᶠ◌}
-use Rattle.rules.specs.Result.{Result, ok, err, ◌>>=◌}
+use Rattle.rules.specs.Result.{Result, ◌>>=◌}
 use Rattle.rules.specs.Table.{Table, params}
 use Rattle.rules.specs.Usage.{take, usage, usage_factor, usage_inner, usage_factors}
 use Rattle.rules.specs.Stack.{Met, met, met_factor, met_inner, met_factors}
@@ -10,12 +11,12 @@ use Rattle.rules.specs.InOrder.{Distinct}
 use Rattle.rules.proofs.State.{State, take_all, take_all-sound, take_all-can, names_of, met_names}
 
 pub bind-cong : {A B : Type 0} (m : Result A) (f g : A → Result B) → ((a : A) → f a ≡ g a) → (m >>= f) ≡ (m >>= g)
-bind-cong (ok a) f g h = h a
-bind-cong (err x) f g h = refl
+bind-cong (Ok a) f g h = h a
+bind-cong (Err x) f g h = refl
 
 pub bind_assoc : {A B C : Type 0} (m : Result A) (f : A → Result B) (g : B → Result C) → ((m >>= f) >>= g) ≡ (m >>= λ a. f a >>= g)
-bind_assoc (ok a) f g = refl
-bind_assoc (err x) f g = refl
+bind_assoc (Ok a) f g = refl
+bind_assoc (Err x) f g = refl
 
 take_all-append : (vs ws : List Met) (t : Table) → take_all (vs ++ ws) t ≡ (take_all vs t >>= λ t'. take_all ws t')
 take_all-append [] ws t = refl
@@ -27,9 +28,9 @@ take_all-append (v ∷ vs) ws t =
 two : (f g : Table → Result Table) (vs ws : List Met) (t : Table) → f t ≡ take_all vs t → ((t' : Table) → g t' ≡ take_all ws t') → (f t >>= λ t'. g t') ≡ take_all (vs ++ ws) t
 two f g vs ws t p q = ap (λ m. m >>= λ t'. g t') p ∙ bind-cong (take_all vs t) (λ t'. g t') (λ t'. take_all ws t') q ∙ sym (take_all-append vs ws t)
 
-pub bind_ok : {A : Type 0} (m : Result A) → (m >>= λ a. ok a) ≡ m
-bind_ok (ok a) = refl
-bind_ok (err x) = refl
+pub bind_ok : {A : Type 0} (m : Result A) → (m >>= λ a. Ok a) ≡ m
+bind_ok (Ok a) = refl
+bind_ok (Err x) = refl
 
 mutual
   unfolding usage met
@@ -60,9 +61,9 @@ mutual
   usage-factors (f ∷ᶠ fs) t = two (usage_inner f) (usage_factors fs) (met_inner f) (met_factors fs) t (usage-inner f t) (λ t'. usage-factors fs t')
 
 -- an expression passed: its variables have taken the next items, and nothing else changed
-pub usage-sound : (e : Expression) (ks : List Met) (t t' : Table) → State ks t → usage e t ≡ ok t' → State (ks ++ met e) t' × (params t' ≡ params t)
+pub usage-sound : (e : Expression) (ks : List Met) (t t' : Table) → State ks t → usage e t ≡ Ok t' → State (ks ++ met e) t' × (params t' ≡ params t)
 usage-sound e ks t t' s h = take_all-sound (met e) ks t t' s (sym (usage-met e t) ∙ h)
 
 -- an expression passes if its variables are the next names
-pub usage-can : (e : Expression) (ks xs : List Met) (t : Table) → State ks t → Distinct (names_of t) → names_of t ≡ met_names (ks ++ (met e ++ xs)) → (t' : Table) × (usage e t ≡ ok t')
+pub usage-can : (e : Expression) (ks xs : List Met) (t : Table) → State ks t → Distinct (names_of t) → names_of t ≡ met_names (ks ++ (met e ++ xs)) → (t' : Table) × (usage e t ≡ Ok t')
 usage-can e ks xs t s d h = let k = take_all-can (met e) ks xs t s d h in (k.0, usage-met e t ∙ k.1)

@@ -1,7 +1,7 @@
 -- analyze: flow 18, 19; count against declarations 20; 11; the statements; 14.
-use Rattle.std.specs.Prelude.{ℕ, cond, List, [], ◌∷◌, eqb, length}
-use Rattle.rules.specs.Ast.{Location, nowhere, Declaration, Contract, Checked, Ok, DeclarationPathMismatch}
-use Rattle.rules.specs.Result.{Result, ok, ◌>>=◌, ◌>>◌, refused}
+use Rattle.std.specs.Prelude.{ℕ, cond, List, [], ◌∷◌, eqb, length, Ok}
+use Rattle.rules.specs.Ast.{Location, nowhere, Declaration, Contract, DeclarationPathMismatch}
+use Rattle.rules.specs.Result.{Result, Checked, ◌>>=◌, ◌>>◌, refused}
 use Rattle.rules.specs.Paths.{count}
 use Rattle.rules.specs.Flow.{flow}
 use Rattle.rules.specs.Table.{Table, build_all}
@@ -16,7 +16,7 @@ first_item ((p ∷ d) ∷ ds) = p.loc
 
 -- as many declarations as paths, else 20 at the first item
 unfoldable pub counted : ℕ → List Declaration → Checked
-counted n ds = cond (eqb (length ds) n) Ok (refused DeclarationPathMismatch (first_item ds))
+counted n ds = cond (eqb (length ds) n) (Ok tt) (refused DeclarationPathMismatch (first_item ds))
 
 -- acceptance: each path's final table, and the waits in listing order
 pub record Analysis : Type 0 where
@@ -35,4 +35,4 @@ analyze c = do
   tables ← build_all c.declarations
   w ← walk c.block c.target (begin tables)
   unused_all w.tables
-  ok (record { tables = w.tables; waits = w.waits })
+  Ok (record { tables = w.tables; waits = w.waits })

@@ -1,7 +1,7 @@
 -- check_flow: 18 and 19.
-use Rattle.std.specs.Prelude.{Bool, true, false}
-use Rattle.rules.specs.Ast.{Statement, Block, IfStatement, IfElseStatement, LocktimeStatement, VerifyStatement, ExpressionStatement, []ᵇ, ◌∷ᵇ◌, Checked, Ok, NoReturn, UnreachableCode, place, nowhere}
-use Rattle.rules.specs.Result.{both, refused}
+use Rattle.std.specs.Prelude.{Bool, true, false, Ok}
+use Rattle.rules.specs.Ast.{Statement, Block, IfStatement, IfElseStatement, LocktimeStatement, VerifyStatement, ExpressionStatement, []ᵇ, ◌∷ᵇ◌, NoReturn, UnreachableCode, place, nowhere}
+use Rattle.rules.specs.Result.{Checked, both, refused}
 
 -- whether statements may follow: after a wait and a verify, not after an if or a return
 unfoldable pub goes_on : Statement → Bool
@@ -25,7 +25,7 @@ unfoldable mutual
   flow_last (IfElseStatement l e b c) = both (flow b) (flow c)
   flow_last (LocktimeStatement l n o v) = refused NoReturn l
   flow_last (VerifyStatement l e) = refused NoReturn l
-  flow_last (ExpressionStatement l e) = Ok
+  flow_last (ExpressionStatement l e) = Ok tt
 
   -- an empty block is 18 at 0,0,1,0
   pub flow : Block → Checked

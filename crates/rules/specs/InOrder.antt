@@ -1,6 +1,6 @@
 -- What "in order" means of a tree: flow, path count, distinct names, types, limits, each by its rule.
-use Rattle.std.specs.Prelude.{ℕ, ◌+◌, true, List, [], ◌∷◌, ◌≡◌, length, get_or}
-use Rattle.rules.specs.Ast.{Name, Target, StackParam, Declaration, Contract, Statement, Block, IfStatement, IfElseStatement, LocktimeStatement, VerifyStatement, ExpressionStatement, []ᵇ, ◌∷ᵇ◌, Ok, from_top}
+use Rattle.std.specs.Prelude.{ℕ, ◌+◌, true, List, [], ◌∷◌, ◌≡◌, length, get_or, Ok}
+use Rattle.rules.specs.Ast.{Name, Target, StackParam, Declaration, Contract, Statement, Block, IfStatement, IfElseStatement, LocktimeStatement, VerifyStatement, ExpressionStatement, []ᵇ, ◌∷ᵇ◌, from_top}
 use Rattle.rules.specs.Paths.{count}
 use Rattle.rules.specs.Flow.{flow}
 use Rattle.rules.specs.Types.{truth}
@@ -30,11 +30,11 @@ declared ds n = from_top (get_or ds n [])
 -- `n` is the block's lowest path: an if's condition and if-block begin at n, its else-block as many paths later as the if-block has
 unfoldable mutual
   pub TypedStatement : Statement → Target → List Declaration → ℕ → Type 0
-  TypedStatement (IfStatement l e b) g ds n = (truth e g (declared ds n) ≡ Ok) × Typed b g ds n
-  TypedStatement (IfElseStatement l e b c) g ds n = (truth e g (declared ds n) ≡ Ok) × Typed b g ds n × Typed c g ds (n + count b)
+  TypedStatement (IfStatement l e b) g ds n = (truth e g (declared ds n) ≡ Ok tt) × Typed b g ds n
+  TypedStatement (IfElseStatement l e b c) g ds n = (truth e g (declared ds n) ≡ Ok tt) × Typed b g ds n × Typed c g ds (n + count b)
   TypedStatement (LocktimeStatement l m o v) g ds n = Unit {0}
-  TypedStatement (VerifyStatement l e) g ds n = truth e g (declared ds n) ≡ Ok
-  TypedStatement (ExpressionStatement l e) g ds n = truth e g (declared ds n) ≡ Ok
+  TypedStatement (VerifyStatement l e) g ds n = truth e g (declared ds n) ≡ Ok tt
+  TypedStatement (ExpressionStatement l e) g ds n = truth e g (declared ds n) ≡ Ok tt
 
   pub Typed : Block → Target → List Declaration → ℕ → Type 0
   Typed []ᵇ g ds n = Unit {0}
@@ -43,18 +43,18 @@ unfoldable mutual
 -- each wait, and each number and literal that check_security visits, is within its bounds
 unfoldable mutual
   pub LimitedStatement : Statement → Type 0
-  LimitedStatement (IfStatement l e b) = (security e ≡ Ok) × Limited b
-  LimitedStatement (IfElseStatement l e b c) = (security e ≡ Ok) × Limited b × Limited c
+  LimitedStatement (IfStatement l e b) = (security e ≡ Ok tt) × Limited b
+  LimitedStatement (IfElseStatement l e b c) = (security e ≡ Ok tt) × Limited b × Limited c
   LimitedStatement (LocktimeStatement l n o v) = in_bounds o v ≡ true
-  LimitedStatement (VerifyStatement l e) = security e ≡ Ok
-  LimitedStatement (ExpressionStatement l e) = security e ≡ Ok
+  LimitedStatement (VerifyStatement l e) = security e ≡ Ok tt
+  LimitedStatement (ExpressionStatement l e) = security e ≡ Ok tt
 
   pub Limited : Block → Type 0
   Limited []ᵇ = Unit {0}
   Limited (s ∷ᵇ b) = LimitedStatement s × Limited b
 
 pub record InOrder (c : Contract) : Type 0 where
-  pub flows : flow c.block ≡ Ok
+  pub flows : flow c.block ≡ Ok tt
   pub counts : length c.declarations ≡ count c.block
   pub distinct : DistinctAll c.declarations
   pub typed : Typed c.block c.target c.declarations 0

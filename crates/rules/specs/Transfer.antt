@@ -1,8 +1,8 @@
 -- transfer_prefix_consumption, before an else-block: 20.
-use Rattle.std.specs.Prelude.{ℕ, Bool, true, false, ◌&&◌, ◌||◌, [], ◌∷◌}
+use Rattle.std.specs.Prelude.{ℕ, Bool, true, false, ◌&&◌, ◌||◌, [], ◌∷◌, Ok}
 use Rattle.std.proofs.Math.Option.{Option, some, none}
 use Rattle.rules.specs.Ast.{Location, same, DeclarationPathMismatch}
-use Rattle.rules.specs.Result.{Result, ok, refuse}
+use Rattle.rules.specs.Result.{Result, refuse}
 use Rattle.rules.specs.Table.{Entry, Table}
 use Rattle.rules.specs.Usage.{free}
 
@@ -36,6 +36,6 @@ hand (e ∷ t) (c ∷ n) = hand_one e.taken c ∷ hand t n
 -- from the table after the condition into the next path's table; 20 at the if
 unfoldable pub transfer : Location → Table → Table → Result Table
 transfer l t n = elim (placed t n && run t) [
-  | true ↦ ok (hand t n)
+  | true ↦ Ok (hand t n)
   | false ↦ refuse DeclarationPathMismatch l
 ]

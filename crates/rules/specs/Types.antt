@@ -1,9 +1,9 @@
 -- The five type rules, the signature and key rule, and the multi-signature: 12, 16, 17, 22.
 -- `ps` is the declaration of the path, from the top.
-use Rattle.std.specs.Prelude.{ℕ, suc, Bool, true, false, ◌&&◌, ◌||◌, cond, List, [], ◌∷◌, eqb, ltb}
+use Rattle.std.specs.Prelude.{ℕ, suc, Bool, true, false, ◌&&◌, ◌||◌, cond, List, [], ◌∷◌, eqb, ltb, Ok, Err}
 use Rattle.std.proofs.Math.Option.{Option, some, none}
-use Rattle.rules.specs.Ast.{Name, same, Location, Target, ItemType, Signature, Number, String, Boolean, StackParam, Expression, Factor, Factors, Variable, NumberLiteral, BooleanLiteral, StringLiteral, LogicalExpression, CompareExpression, UnaryMathExpression, BinaryMathExpression, UnaryCryptoExpression, CheckSigExpression, ByteExpression, SingleSigFactor, MultiSigFactor, []ᶠ, ◌∷ᶠ◌, BinaryCompareOp, Equal, NotEqual, Greater, GreaterOrEqual, Less, LessOrEqual, NumEqual, NumNotEqual, UnaryMathOp, UnaryAdd, UnarySub, Negate, Abs, Not, Checked, Ok, Err, UndefinedVariable, TypeMismatch, InvalidOperation, MalformedPubkey, loc}
-use Rattle.rules.specs.Result.{both, refused}
+use Rattle.rules.specs.Ast.{Name, same, Location, Target, ItemType, Signature, Number, String, Boolean, StackParam, Expression, Factor, Factors, Variable, NumberLiteral, BooleanLiteral, StringLiteral, LogicalExpression, CompareExpression, UnaryMathExpression, BinaryMathExpression, UnaryCryptoExpression, CheckSigExpression, ByteExpression, SingleSigFactor, MultiSigFactor, []ᶠ, ◌∷ᶠ◌, BinaryCompareOp, Equal, NotEqual, Greater, GreaterOrEqual, Less, LessOrEqual, NumEqual, NumNotEqual, UnaryMathOp, UnaryAdd, UnarySub, Negate, Abs, Not, UndefinedVariable, TypeMismatch, InvalidOperation, MalformedPubkey, loc}
+use Rattle.rules.specs.Result.{Checked, both, refused}
 use Rattle.rules.specs.Keys.{is_key, is_ascii}
 
 -- the type of a name
@@ -60,12 +60,12 @@ is_equality NumEqual = false
 is_equality NumNotEqual = false
 
 unfoldable pub passed : Checked → Bool
-passed Ok = true
+passed (Ok _) = true
 passed (Err x) = false
 
 -- a test that is passed, or else 17 at l
 unfoldable pub or17 : Location → Bool → Checked
-or17 l b = cond b Ok (refused InvalidOperation l)
+or17 l b = cond b (Ok tt) (refused InvalidOperation l)
 
 -- a variable at l whose type, if any, must pass a test: an unknown name 12, else 17
 unfoldable pub of_type : Location → (ItemType → Bool) → Option ItemType → Checked
@@ -108,12 +108,12 @@ literal_of (ByteExpression l a) = none
 
 -- a literal under a size has only ASCII, else 17 at the literal
 unfoldable pub ascii : Expression → Checked
-ascii e = elim (literal_of e) [ none ↦ Ok | some s ↦ or17 (loc e) (is_ascii s.bytes) ]
+ascii e = elim (literal_of e) [ none ↦ Ok tt | some s ↦ or17 (loc e) (is_ascii s.bytes) ]
 
 -- compare: both strings, or else both numbers, or else both truths; strings and truths allow only == and !=; otherwise 17 at the compare
 unfoldable pub compared : Location → Bool → Bool → Bool → Bool → Checked
 compared l equality true numbers truths = or17 l equality
-compared l equality false true truths = Ok
+compared l equality false true truths = Ok tt
 compared l equality false false true = or17 l equality
 compared l equality false false false = refused InvalidOperation l
 
@@ -127,7 +127,7 @@ signature ps s = elim (name_of s) [ none ↦ refused TypeMismatch (loc s) | some
 
 -- the key: not a literal 16; no marked key of the target 22; at it
 unfoldable pub key : Target → Expression → Checked
-key g k = elim (literal_of k) [ none ↦ refused TypeMismatch (loc k) | some s ↦ cond (is_key g s.bytes s.marked) Ok (refused MalformedPubkey (loc k)) ]
+key g k = elim (literal_of k) [ none ↦ refused TypeMismatch (loc k) | some s ↦ cond (is_key g s.bytes s.marked) (Ok tt) (refused MalformedPubkey (loc k)) ]
 
 -- signature before key
 unfoldable pub sig_key : Target → List StackParam → Expression → Expression → Checked
@@ -141,15 +141,15 @@ size (f ∷ᶠ fs) = suc (size fs)
 -- the factors of a multi-signature in turn; inner multi-signatures are skipped
 unfoldable pub inner : Target → List StackParam → Factor → Checked
 inner g ps (SingleSigFactor l s k) = sig_key g ps s k
-inner g ps (MultiSigFactor l m fs) = Ok
+inner g ps (MultiSigFactor l m fs) = Ok tt
 
 unfoldable pub inners : Target → List StackParam → Factors → Checked
-inners g ps []ᶠ = Ok
+inners g ps []ᶠ = Ok tt
 inners g ps (f ∷ᶠ fs) = both (inner g ps f) (inners g ps fs)
 
 -- m = 0 or m above the factor count is 17 at the M line's location
 unfoldable pub threshold : Location → ℕ → ℕ → Checked
-threshold l m n = cond (eqb m 0 || ltb n m) (refused InvalidOperation l) Ok
+threshold l m n = cond (eqb m 0 || ltb n m) (refused InvalidOperation l) (Ok tt)
 
 -- a signature check, by the general rule
 unfoldable pub factor : Target → List StackParam → Factor → Checked
@@ -167,7 +167,7 @@ unfoldable mutual
   string (Variable l n x) g ps = variable ps l x is_string
   string (NumberLiteral l v) g ps = refused InvalidOperation l
   string (BooleanLiteral l b) g ps = refused InvalidOperation l
-  string (StringLiteral l b m) g ps = Ok
+  string (StringLiteral l b m) g ps = Ok tt
   string (LogicalExpression l o a b) g ps = refused InvalidOperation l
   string (CompareExpression l o a b) g ps = refused InvalidOperation l
   string (UnaryMathExpression l o a) g ps = refused InvalidOperation l
@@ -179,7 +179,7 @@ unfoldable mutual
   -- a number; a variable of type Number; size by the general rule; both sides of arithmetic; the operand of a unary other than not; else 17
   pub number : Expression → Target → List StackParam → Checked
   number (Variable l n x) g ps = variable ps l x is_number
-  number (NumberLiteral l v) g ps = Ok
+  number (NumberLiteral l v) g ps = Ok tt
   number (BooleanLiteral l b) g ps = refused InvalidOperation l
   number (StringLiteral l b m) g ps = refused InvalidOperation l
   number (LogicalExpression l o a b) g ps = refused InvalidOperation l
@@ -195,7 +195,7 @@ unfoldable mutual
   pub truth : Expression → Target → List StackParam → Checked
   truth (Variable l n x) g ps = variable ps l x is_boolean
   truth (NumberLiteral l v) g ps = refused InvalidOperation l
-  truth (BooleanLiteral l b) g ps = Ok
+  truth (BooleanLiteral l b) g ps = Ok tt
   truth (StringLiteral l b m) g ps = refused InvalidOperation l
   truth (LogicalExpression l o a b) g ps = both (truth a g ps) (truth b g ps)
   truth (CompareExpression l o a b) g ps = compare l o (string a g ps) (string b g ps) (number a g ps) (number b g ps) (truth a g ps) (truth b g ps)
@@ -208,9 +208,9 @@ unfoldable mutual
   -- a hash's operand: a variable not of type Signature, else 17; a hash by this rule again; others by the general rule
   pub hashed : Expression → Target → List StackParam → Checked
   hashed (Variable l n x) g ps = variable ps l x not_signature
-  hashed (NumberLiteral l v) g ps = Ok
-  hashed (BooleanLiteral l b) g ps = Ok
-  hashed (StringLiteral l b m) g ps = Ok
+  hashed (NumberLiteral l v) g ps = Ok tt
+  hashed (BooleanLiteral l b) g ps = Ok tt
+  hashed (StringLiteral l b m) g ps = Ok tt
   hashed (LogicalExpression l o a b) g ps = both (truth a g ps) (truth b g ps)
   hashed (CompareExpression l o a b) g ps = compare l o (string a g ps) (string b g ps) (number a g ps) (number b g ps) (truth a g ps) (truth b g ps)
   hashed (UnaryMathExpression l o a) g ps = unary (is_not o) (truth a g ps) (number a g ps)
@@ -222,10 +222,10 @@ unfoldable mutual
   -- the general rule: literals and variables pass; logic, not, arithmetic, hash as above; any other unary passes if its operand is a number,
   -- else the operand's fault; size wants a string, and a literal under it only ASCII
   pub general : Expression → Target → List StackParam → Checked
-  general (Variable l n x) g ps = Ok
-  general (NumberLiteral l v) g ps = Ok
-  general (BooleanLiteral l b) g ps = Ok
-  general (StringLiteral l b m) g ps = Ok
+  general (Variable l n x) g ps = Ok tt
+  general (NumberLiteral l v) g ps = Ok tt
+  general (BooleanLiteral l b) g ps = Ok tt
+  general (StringLiteral l b m) g ps = Ok tt
   general (LogicalExpression l o a b) g ps = both (truth a g ps) (truth b g ps)
   general (CompareExpression l o a b) g ps = compare l o (string a g ps) (string b g ps) (number a g ps) (number b g ps) (truth a g ps) (truth b g ps)
   general (UnaryMathExpression l o a) g ps = unary (is_not o) (truth a g ps) (number a g ps)

@@ -1,9 +1,9 @@
 -- analyze_statement: the statements in order, over the list of tables, the number of the path and the waits met.
-use Rattle.std.specs.Prelude.{ℕ, suc, List, [], ◌∷◌, ◌++◌, set}
+use Rattle.std.specs.Prelude.{ℕ, suc, List, [], ◌∷◌, ◌++◌, set, Ok}
 use Rattle.std.proofs.Math.Option.{some, none}
 use Rattle.std.proofs.Math.ListN.{get_elem?}
 use Rattle.rules.specs.Ast.{Location, Target, Expression, Statement, Block, IfStatement, IfElseStatement, LocktimeStatement, VerifyStatement, ExpressionStatement, []ᵇ, ◌∷ᵇ◌, DeclarationPathMismatch}
-use Rattle.rules.specs.Result.{Result, ok, ◌>>=◌, ◌>>◌, refuse}
+use Rattle.rules.specs.Result.{Result, ◌>>=◌, ◌>>◌, refuse}
 use Rattle.rules.specs.Table.{Table, params}
 use Rattle.rules.specs.Usage.{usage}
 use Rattle.rules.specs.Types.{truth}
@@ -37,11 +37,11 @@ examine g e t = do
   t' ← usage e t
   truth e g (params t')
   security e
-  ok t'
+  Ok t'
 
 -- the table of path n; ensure_branch_in_range, which no contract meets once paths and declarations are counted alike: 20 at l
 unfoldable pub table_at : Location → List Table → ℕ → Result Table
-table_at l ts n = elim (get_elem? ts n) [ none ↦ refuse DeclarationPathMismatch l | some t ↦ ok t ]
+table_at l ts n = elim (get_elem? ts n) [ none ↦ refuse DeclarationPathMismatch l | some t ↦ Ok t ]
 
 -- a verify, return or condition at l on the path in use
 unfoldable pub examine_at : Target → Location → Expression → Walked → Result Table
@@ -54,7 +54,7 @@ unfoldable pub cross : Location → Table → Walked → Result Walked
 cross l t w = do
   next ← table_at l w.tables (suc w.branch)
   next' ← transfer l t next
-  ok (on_path w (suc w.branch) next')
+  Ok (on_path w (suc w.branch) next')
 
 unfoldable mutual
   pub walk_statement : Statement → Target → Walked → Result Walked
@@ -68,16 +68,16 @@ unfoldable mutual
     walk c g w₂
   walk_statement (LocktimeStatement l n o v) g w = do
     k ← wait l o v
-    ok (with_wait w n k)
+    Ok (with_wait w n k)
   walk_statement (VerifyStatement l e) g w = do
     t ← examine_at g l e w
-    ok (with_table w t)
+    Ok (with_table w t)
   walk_statement (ExpressionStatement l e) g w = do
     t ← examine_at g l e w
-    ok (with_table w t)
+    Ok (with_table w t)
 
   pub walk : Block → Target → Walked → Result Walked
-  walk []ᵇ g w = ok w
+  walk []ᵇ g w = Ok w
   walk (s ∷ᵇ b) g w = do
     w' ← walk_statement s g w
     walk b g w'

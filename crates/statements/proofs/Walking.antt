@@ -1,170 +1,189 @@
--- A statement on one path, from what the functions below it answer.
-use Prim.Native.Nat.{ℕ, suc, ◌+◌, ◌%◌, ◌≤◌, ◌<◌}
+-- A statement on the paths as they are, from what the functions below it answer.
+use Prim.Native.Nat.{ℕ, suc, ◌+◌, ◌≤◌, ◌<◌}
 use native.Mathlib.Numerals.{add-one}
 use native.Mathlib.Omega.{arith}
 use mathlib.Core.Bool.{Bool, true, false}
-use mathlib.Core.List.{List, []}
-use mathlib.Core.Option.{some}
+use mathlib.Core.List.{List}
 use mathlib.Core.Path.{◌≡◌, refl, sym, ap, ◌∙◌, subst}
 use borrow.Author.Tests.{ltb-true, ltb-false}
 use lib.Dec.{ltb}
-use lib.ListN.{get_or, get_elem?}
-use lib.Seq.{set-set}
+use lib.ListN.{length, set}
+use Rattle.std.specs.Prelude.{Ok, Err, IsErrAnd}
+use Rattle.std.proofs.lemmas.Result.{err_from_is_err_and}
 use Rattle.ast.specs.declared.Location.{Location}
 use Rattle.ast.specs.declared.LocktimeOp.{LocktimeOp}
 use Rattle.ast.specs.declared.Signed.{Signed}
+use Rattle.ast.specs.declared.Target.{Target}
 use Rattle.ast.specs.declared.ErrorKind.TheVariants.{DeclarationPathMismatch}
 use Rattle.ast.specs.declared.CompileError.{CompileError}
-use Rattle.ast.specs.declared.Checked.{Checked}
-use Rattle.ast.specs.declared.Checked.TheVariants.{Ok, Err}
 use Rattle.ast.specs.Tree.{Expression, Statement, LocktimeStatement, VerifyStatement, ExpressionStatement, fault}
-use Rattle.listing.specs.declared.Line.{Line}
 use Rattle.rows.specs.Rows.{line_in}
+use Rattle.listing.specs.declared.Line.{Line}
 use Rattle.reader.specs.Spells.{SpellsExpression}
-use Rattle.rules.specs.Result.{Result, ok, err, ◌>>=◌}
+use Rattle.rules.specs.Result.{Result, Checked, ◌>>=◌}
 use Rattle.rules.specs.Table.{Table}
 use Rattle.rules.specs.Limits.{wait}
 use Rattle.rules.specs.Transfer.{transfer}
-use Rattle.rules.specs.Walk.{examine, table_at, examine_at}
-use Rattle.nodes.specs.declared.Answer.{Answer}
-use Rattle.nodes.specs.declared.Answer.TheVariants.{Pass, Fault}
-use Rattle.paths.specs.declared.NamePlace.{NamePlace}
+use Rattle.rules.specs.Walk.{examine, table_at}
 use Rattle.paths.specs.declared.Path.{Path}
-use Rattle.paths.specs.declared.Used.{Used}
 use Rattle.paths.specs.Path.{table_of, Onward, Walked}
-use Rattle.paths.proofs.Walks.{placed_on}
+use Rattle.paths.proofs.Tables.{items-params}
+use Rattle.paths.proofs.Walks.{placed_on, walked-ok, walked-err}
+use Rattle.usage.specs.declared.Used.{Used}
+use Rattle.usage.specs.Names.{has_names}
+use Rattle.usage.specs.Walk.{WalkedTo}
 use Rattle.declarations.specs.declared.Declared.{Declared}
-use Rattle.statements.specs.declared.Step.{Step}
-use Rattle.limits.specs.Waits.{wait_of}
-use Rattle.tables.specs.Held.{Held, statement_held, examine_held}
-use Rattle.tables.specs.State.{path_at, tables_of, PathReady, Ready}
-use Rattle.statements.specs.Steps.{in_range, crossing, tables_with, InUse, Tried, On, Decided, Told, wait_step, examined}
+use Rattle.tables.specs.Held.{Held, statement_held, examine_held, cross_held}
+use Rattle.tables.specs.State.{path_at, tables_of, ReadyAt, InUse, Ready}
 use Rattle.tables.proofs.Held.{held-wait, held-verify, held-return, held-cross}
-use Rattle.tables.proofs.State.{result-fault, result-pass, items-same, element-set, set_there, set_past, table-at, table-past}
+use Rattle.tables.proofs.State.{enough, tables-set, ready-set, table-at, table-past}
+use Rattle.statements.specs.declared.Step.{Step}
+use Rattle.statements.specs.declared.Walk.{Walk}
+use Rattle.statements.specs.Steps.{in_range, examined, stays, On, Decided, Told}
+use Rattle.statements.specs.Walks.{resumed, turned, held_of, held_in, Moved, Tried, Stepped}
 
 -- the test of a path against those declared
 module _ (count n : ℕ) (l : Location) where
-  pub in-range : in_range count n l ≡ Ok → n < count
+  pub in-range : in_range count n l ≡ Ok tt → n < count
   unfolding in_range
   in-range h = go (ltb n count) refl
     where
       go : (b : Bool) → ltb n count ≡ b → n < count
       go true e = ltb-true n count e
-      go false e = let f : ◌≡◌ {A = Checked} (Err (fault DeclarationPathMismatch l)) Ok = rw (e, in_range) at h in let o : ◌≡◌ {A = ℕ} 0 1 = cc in absurd (omega arith)
+      go false e = let f : ◌≡◌ {A = Checked} (Err (fault DeclarationPathMismatch l)) (Ok tt) = rw (e, in_range) at h in cc
 
-  pub out_of_range : {x : CompileError} → in_range count n l ≡ Err x → (count ≤ n) × (x ≡ fault DeclarationPathMismatch l)
+  pub out_of_range : {x : CompileError} → in_range count n l ≡ Err x → (count ≤ n) × (fault DeclarationPathMismatch l ≡ x)
   unfolding in_range
   out_of_range {x} h = go (ltb n count) refl
     where
-      go : (b : Bool) → ltb n count ≡ b → (count ≤ n) × (x ≡ fault DeclarationPathMismatch l)
-      go true e = let f : ◌≡◌ {A = Checked} Ok (Err x) = rw (e, in_range) at h in let o : ◌≡◌ {A = ℕ} 0 1 = cc in absurd (omega arith)
-      go false e = let f : ◌≡◌ {A = Checked} (Err (fault DeclarationPathMismatch l)) (Err x) = rw (e, in_range) at h in let g : x ≡ fault DeclarationPathMismatch l = cc in (ltb-false n count e, g)
+      go : (b : Bool) → ltb n count ≡ b → (count ≤ n) × (fault DeclarationPathMismatch l ≡ x)
+      go true e = let f : ◌≡◌ {A = Checked} (Ok tt) (Err x) = rw (e, in_range) at h in cc
+      go false e = let f : ◌≡◌ {A = Checked} (Err (fault DeclarationPathMismatch l)) (Err x) = rw (e, in_range) at h in let g : fault DeclarationPathMismatch l ≡ x = cc in (ltb-false n count e, g)
 
 -- the expression of a verify or a return
 pub at_next : {L : ℕ → Line} {s : List ℕ} {i j : ℕ} {e : Expression} → SpellsExpression L s (suc i) e j → SpellsExpression L s (i + 1) e j
 at_next {L} {s} {i} {j} {e} sp = subst (λ m. SpellsExpression L s m e j) (sym (add-one i)) sp
 
--- the path n of those declared, its places read below 32, and the one after it
-module _ (d : Declared) (rows : List (List NamePlace)) (taken : List ℕ) (n : ℕ) {p : Path} (few : d.count ≤ 32) where
-  pub read_here : (n < d.count → p ≡ record { places = get_or rows (n % 32) []; count = get_or d.counts n 0; taken = get_or taken n 0 }) → n < d.count → p ≡ path_at d rows taken n
-  read_here h i = let e : n % 32 ≡ n = omega arith in h i ∙ rw e
+-- a walk's path, alone
+pub path-walk : {s t : List ℕ} {p : Path} {w : Result Table} {j : ℕ} {r : Result Used} → WalkedTo s t p w j r → Walked s t p w (r >>= λ u. Ok u.path)
+path-walk {r = Ok u} h = h.walked
+path-walk {r = Err x} h = h.walked
 
-  pub read_next : (n % 32 + 1 < d.count → p ≡ record { places = get_or rows ((n % 32 + 1) % 32) []; count = get_or d.counts (n % 32 + 1) 0; taken = get_or taken (n % 32 + 1) 0 }) → suc n < d.count → p ≡ path_at d rows taken (suc n)
-  read_next h i =
-      let e : n % 32 + 1 ≡ suc n = omega arith in
-      let f : suc n % 32 ≡ suc n = omega arith in
-      h (omega arith) ∙ rw (e, f)
+pub same-walk : {s t : List ℕ} {p : Path} {w : Result Table} {r : Result Path} → Walked s t p w r → Walked s t p w (r >>= λ q. Ok q)
+same-walk {r = Ok q} h = h
+same-walk {r = Err x} h = h
 
--- the path in use, as the rows have it
-module _ (s t : List ℕ) (d : Declared) (rows : List (List NamePlace)) (taken : List ℕ) (n : ℕ) (r : Ready s t d rows taken) where
-  pub in_use : {p : Path} → (n < d.count → p ≡ path_at d rows taken n) → InUse s t d n p
-  in_use e h = subst (PathReady s t (get_or d.firsts n 0) (get_or d.counts n 0)) (sym (e h)) (r.paths n h)
+-- a path after a walk on it
+stays-ready : {s t : List ℕ} (d : Declared) (n : ℕ) {p q : Path} → ReadyAt s t d n p → Onward s t p q → ReadyAt s t d n q
+stays-ready {s} {t} d n r on = record { formed = on.sound; items = r.items; same = items-params s t on.items ∙ r.same; placed = placed_on on.sound on.items r.placed }
 
-  pub tables-same : {p : Path} → (n < d.count → p ≡ path_at d rows taken n) → tables_with s t d rows taken n p ≡ tables_of s t d rows taken
-  tables-same {p} e = go (ltb n d.count) refl
-    where
-      go : (b : Bool) → ltb n d.count ≡ b → tables_with s t d rows taken n p ≡ tables_of s t d rows taken
-      go true q = let h = ltb-true n d.count q in set_there (tables_of s t d rows taken) n (table_of s t p) (table-at s t d rows taken n h ∙ ap (λ p. some (table_of s t p)) (sym (e h)))
-      go false q = set_past (tables_of s t d rows taken) n (table_of s t p) (table-past s t d rows taken n (ltb-false n d.count q))
+module _ {s t : List ℕ} {d : Declared} where
+  -- a refused step
+  pub stepped-err : {A : Type 0} {w : Result Held} {j n : ℕ} {go : A → Walk} {r : Result A} {x : CompileError} → IsErrAnd r (λ y. y ≡ x) → w ≡ Err x → Stepped s t d w j n go r
+  stepped-err {r = r} h e =
+      let (y, k, l) = err_from_is_err_and r h in
+      record {
+        moved = record { result = rw (k, l, e); onward = λ v o. let z : Err y ≡ Ok v = rw k at o in cc };
+        within = λ a o. let z : Err y ≡ Ok a = sym k ∙ o in cc;
+      }
 
--- the path in use after a walk on it
-stays : (s t : List ℕ) (d : Declared) (n : ℕ) {p : Path} → InUse s t d n p → (u : Used) {j m : ℕ} → Onward s t p j u m → InUse s t d n u.path
-stays s t d n {p} r u on h = record { formed = on.sound; items = (r h).items; same = items-same s t p u.path on.items ∙ (r h).same; placed = placed_on on.sound on.items (r h).placed }
+  pub stepped-is : {A : Type 0} {v w : Result Held} {j n : ℕ} {go : A → Walk} {r : Result A} → v ≡ w → Stepped s t d w j n go r → Stepped s t d v j n go r
+  stepped-is e h = record { moved = record { result = h.moved.result ∙ sym e; onward = h.moved.onward }; within = h.within }
 
--- an expression on the path n, whose table is p's
-module _ (s t : List ℕ) (d : Declared) (n : ℕ) (p : Path) (l : Location) (e : Expression) (j : ℕ) (u : Used) where
-  -- no such path
-  pub tried-past : d.count ≤ n → u.answer ≡ Fault (fault DeclarationPathMismatch l) → Tried s t d n p (examined d.target l e) j u
-  unfolding examined examine_at table_at
-  tried-past h a = record {
-    passes = λ m b. let f : ◌≡◌ {A = Answer} (Fault (fault DeclarationPathMismatch l)) (Pass m) = sym a ∙ b in let o : ◌≡◌ {A = ℕ} 0 1 = cc in absurd (omega arith);
-    stops = λ x b rows taken.
-        let f : ◌≡◌ {A = Answer} (Fault (fault DeclarationPathMismatch l)) (Fault x) = sym a ∙ b in
-        let g : ◌≡◌ {A = CompileError} (fault DeclarationPathMismatch l) x = cc in
-        let past = table-past s t d rows taken n h in
-        rw (set_past (tables_of s t d rows taken) n (table_of s t p) past, past, table_at) (ap err g);
-  }
+  -- an expression that is refused on the path in use
+  pub tried-err : {w : Result Held} {j : ℕ} {v : Walk} {r : Result Used} {x : CompileError} → IsErrAnd r (λ y. y ≡ x) → w ≡ Err x → Tried s t d w j v r
+  tried-err {r = r} h e =
+      let (y, k, l) = err_from_is_err_and r h in
+      record { result = rw (k, l, e); onward = λ u o. let z : Err y ≡ Ok u = sym k ∙ o in cc }
 
-  module _ (within : n < d.count) (r : InUse s t d n p) (w : Walked s t p (examine d.target e (table_of s t p)) j u) where
-    -- the rule on the path in use
-    on-path : (rows : List (List NamePlace)) (taken : List ℕ) → examine_held d.target l e (tables_with s t d rows taken n p) n ≡ examine d.target e (table_of s t p)
-    unfolding examine_at table_at
-    on-path rows taken = rw (element-set (tables_of s t d rows taken) n (table_of s t p) (table_of s t (path_at d rows taken n)) (table-at s t d rows taken n within), table_at)
+  pub tried-is : {a w : Result Held} {j : ℕ} {v : Walk} {r : Result Used} → a ≡ w → Tried s t d w j v r → Tried s t d a j v r
+  tried-is e h = record { result = h.result ∙ sym e; onward = h.onward }
 
-    pub tried : Tried s t d n p (examined d.target l e) j u
-    unfolding examined
-    tried = record {
-      passes = λ m a. (
-        (w.onward m a).next,
+  -- an expression on the path in use, from what a rule w answers on its table
+  pub tried : (v : Walk) → InUse s t d v.branch v.paths → {w : Result Table} {j : ℕ} (r : Result Used) → v.branch < d.count → WalkedTo s t (path_at v.paths v.branch) w j r → Tried s t d (w >>= λ u. Ok (record { tables = set (tables_of s t d v.paths) v.branch u; branch = v.branch })) j v r
+  tried v on {w} {j} (Ok x) within h =
+      let walk = path-walk h in
+      record {
+        result = rw (walked-ok walk {q = x.path} refl, tables-set s t d v.paths on.0 within x.path);
+        onward = λ y o. let z : x ≡ y = cc in subst (λ (y : Used). (y.next ≡ j) × ReadyAt s t d v.branch y.path × (v.branch < d.count)) z (h.next x refl, stays-ready d v.branch (on.1 within) (walk.onward x.path refl), within);
+      }
+  tried v on {w} {j} (Err y) within h = record { result = rw (walked-err (path-walk h) {x = y} refl); onward = λ u o. cc }
+
+  -- the walk resumed after it: if all paths could be used, they still can
+  pub stepped-on : {w : Result Held} {j : ℕ} {v : Walk} (r : Result Used) → Ready s t d v.paths → Tried s t d w j v r → Stepped s t d w j v.branch (resumed v) r
+  stepped-on {w} {j} {v} (Ok x) ready h =
+      let on = h.onward x refl in
+      record {
+        moved = record {
+          result = h.result;
+          onward = λ y o. let z : resumed v x ≡ y = cc in subst (λ (y : Walk). (y.next ≡ j) × Ready s t d y.paths) z (on.0, ready-set ready on.2 x.path on.1);
+        };
+        within = λ a o. on.2;
+      }
+  stepped-on (Err y) ready h = record { moved = record { result = h.result; onward = λ v o. cc }; within = λ a o. cc }
+
+  module _ {paths : List Path} (r : Ready s t d paths) {n : ℕ} where
+    -- a step on path n, from what a rule w answers on its table
+    pub stepped : {A : Type 0} (path : A → Path) (next : A → ℕ) {w : Result Table} {j : ℕ} (a : Result A) → n < d.count → Walked s t (path_at paths n) w (a >>= λ x. Ok (path x)) → ((x : A) → a ≡ Ok x → next x ≡ j) → Stepped s t d (w >>= λ u. Ok (record { tables = set (tables_of s t d paths) n u; branch = n })) j n (λ x. record { paths = set paths n (path x); branch = n; next = next x }) a
+    stepped path next {w} {j} (Ok x) within h e =
+        let q = path x in
         record {
-          result = λ rows taken. rw (on-path rows taken, result-pass s t u w.result a) (ap (λ ts. ok (record { tables = ts; branch = n })) (set-set (tables_of s t d rows taken) n (table_of s t p) (table_of s t u.path)));
-          in_use = stays s t d n r u (w.onward m a);
-        },
-      );
-      stops = λ x a rows taken. rw (on-path rows taken, result-fault s t u w.result a);
-    }
+          moved = record {
+            result = rw (walked-ok h {q = q} refl, tables-set s t d paths (enough r) within q);
+            onward = λ v o. let z : record { paths = set paths n q; branch = n; next = next x } ≡ v = cc in subst (λ (v : Walk). (v.next ≡ j) × Ready s t d v.paths) z (e x refl, ready-set r within q (stays-ready d n (r.each n within) (h.onward q refl)));
+          };
+          within = λ a o. within;
+        }
+    stepped path next {w} {j} (Err y) within h e = record { moved = record { result = rw (walked-err h {x = y} refl); onward = λ v o. cc }; within = λ a o. cc }
 
--- what a rule answers on path n, from p or from q: they are the same where that path is declared
-module _ (s t : List ℕ) (d : Declared) (n : ℕ) {p q : Path} (e : n < d.count → p ≡ q) where
-  with-same : (rows : List (List NamePlace)) (taken : List ℕ) → tables_with s t d rows taken n p ≡ tables_with s t d rows taken n q
-  with-same rows taken = go (ltb n d.count) refl
-    where
-      go : (b : Bool) → ltb n d.count ≡ b → tables_with s t d rows taken n p ≡ tables_with s t d rows taken n q
-      go true h = ap (tables_with s t d rows taken n) (e (ltb-true n d.count h))
-      go false h = let past = table-past s t d rows taken n (ltb-false n d.count h) in set_past (tables_of s t d rows taken) n (table_of s t p) past ∙ sym (set_past (tables_of s t d rows taken) n (table_of s t q) past)
+-- the rules on the tables of some paths
+module _ (s t : List ℕ) (d : Declared) (paths : List Path) (full : d.count ≤ length paths) {n : ℕ} where
+  -- an expression at l, on a path that is declared, and on none
+  module _ (g : Target) (l : Location) (e : Expression) where
+    pub examined-here : n < d.count → examined g l e (tables_of s t d paths) n ≡ (examine g e (table_of s t (path_at paths n)) >>= λ u. Ok (record { tables = set (tables_of s t d paths) n u; branch = n }))
+    unfolding examined Rattle.rules.specs.Walk.examine_at table_at
+    examined-here within = rw (table-at s t d paths full n within, table_at)
 
-  pub tried-as : {w : List Table → ℕ → Result Held} {j : ℕ} {u : Used} → Tried s t d n p w j u → Tried s t d n q w j u
-  tried-as {w} T = record {
-    passes = λ m a. let on = T.passes m a in (on.0, record { result = λ rows taken. ap (λ ts. w ts n) (sym (with-same rows taken)) ∙ on.1.result rows taken; in_use = on.1.in_use });
-    stops = λ x a rows taken. ap (λ ts. w ts n) (sym (with-same rows taken)) ∙ T.stops x a rows taken;
-  }
+    pub examined-past : d.count ≤ n → {x : CompileError} → fault DeclarationPathMismatch l ≡ x → examined g l e (tables_of s t d paths) n ≡ Err x
+    unfolding examined Rattle.rules.specs.Walk.examine_at table_at
+    examined-past past q = rw (table-past s t d paths full n past, table_at) (ap Err q)
 
--- on a path that is not declared
-pub examined-past : (s t : List ℕ) (d : Declared) (n : ℕ) (l : Location) (e : Expression) → d.count ≤ n → On s t d n (λ ts. examined d.target l e ts n) (λ ts. err (fault DeclarationPathMismatch l))
-examined-past s t d n l e h rows taken p u = (tried-past s t d n p l e 0 (record { path = p; answer = Fault (fault DeclarationPathMismatch l) }) h refl).stops _ refl rows taken
+  -- from the if-block to the next path, v being the table after the condition
+  module _ (l : Location) (v : Table) where
+    pub crossed : suc n < d.count → cross_held l v (record { tables = tables_of s t d paths; branch = n }) ≡ (transfer l v (table_of s t (path_at paths (suc n))) >>= λ u. Ok (record { tables = set (tables_of s t d paths) (suc n) u; branch = suc n }))
+    unfolding table_at
+    crossed within = held-cross l v _ ∙ rw (table-at s t d paths full (suc n) within, table_at)
+
+    pub crossed-past : d.count ≤ suc n → {x : CompileError} → fault DeclarationPathMismatch l ≡ x → cross_held l v (record { tables = tables_of s t d paths; branch = n }) ≡ Err x
+    unfolding table_at
+    crossed-past past q = held-cross l v _ ∙ rw (table-past s t d paths full (suc n) past, table_at) (ap Err q)
+
+-- an expression that is refused
+pub decided-err : (s t : List ℕ) (d : Declared) (n : ℕ) (l : Location) (e : Expression) (j : ℕ) (r : Result Step) {y : CompileError} → IsErrAnd r (λ z. z ≡ y) → On s t d n (λ ts. examined d.target l e ts n) (λ ts. Err y) → has_names e ≡ false → Decided s t d n l e j r
+decided-err s t d n l e j r h f nameless = let (z, k, q) = err_from_is_err_and r h in subst (Decided s t d n l e j) (sym k) (λ paths u. f paths u ∙ ap Err (sym q), nameless)
 
 -- what the step of a statement says of it
 module _ (s t : List ℕ) (d : Declared) (n : ℕ) (x : Statement) (i j : ℕ) (l : Location) where
-  pub told-wait : {m : ℕ} {o : LocktimeOp} {v : Signed} {r : Step} → x ≡ LocktimeStatement l m o v → j ≡ suc i → r ≡ wait_step (wait_of (wait l o v)) (i + 1) → Told s t d n x i j r
-  told-wait {m} {o} {v} h k e = subst (Told s t d n x i j) (sym e) (go (wait l o v) refl)
-    where
-      walks : (ts : List Table) → statement_held x d.target ts n ≡ (wait l o v >>= λ k. ok (record { tables = ts; branch = n }))
-      walks ts = ap (λ y. statement_held y d.target ts n) h ∙ held-wait l m o v d.target ts n
+  module _ {m : ℕ} {o : LocktimeOp} {v : Signed} (h : x ≡ LocktimeStatement l m o v) where
+    walks : (ts : List Table) → statement_held x d.target ts n ≡ (wait l o v >>= λ k. Ok (record { tables = ts; branch = n }))
+    walks ts = ap (λ y. statement_held y d.target ts n) h ∙ held-wait l m o v d.target ts n
 
-      go : (y : Result ℕ) → wait l o v ≡ y → Told s t d n x i j (wait_step (wait_of y) (i + 1))
-      go (ok c) q = (add-one i ∙ sym k, λ rows taken p u. walks _ ∙ rw q)
-      go (err y) q = λ rows taken p u. walks _ ∙ rw q
+    pub told-wait : {c : ℕ} → j ≡ suc i → wait l o v ≡ Ok c → Told s t d n x i j (Ok (Step.Pass (i + 1)))
+    told-wait k q = (add-one i ∙ sym k, λ paths r. walks _ ∙ rw q)
+
+    pub told-refused : {y : CompileError} (r : Result Step) → wait l o v ≡ Err y → IsErrAnd r (λ z. z ≡ y) → Told s t d n x i j r
+    told-refused {y} r q e = let (z, k, f) = err_from_is_err_and r e in subst (Told s t d n x i j) (sym k) (λ paths u. walks _ ∙ rw (q, f))
 
   -- a verify or a return: what is decided of its expression
-  module _ {e : Expression} (sp : SpellsExpression (line_in t) s (suc i) e j) (r : Step) (D : Decided s t d n l e j r) where
+  module _ {e : Expression} (sp : SpellsExpression (line_in t) s (suc i) e j) (r : Result Step) (D : Decided s t d n l e j r) where
     told-as : ((ts : List Table) → statement_held x d.target ts n ≡ examined d.target l e ts n) → Told s t d n x i j r
     told-as same = go r D
       where
-        go : (r : Step) → Decided s t d n l e j r → Told s t d n x i j r
-        go (Step.Pass m) D = (D.0, λ rows taken p u. same _ ∙ D.1 rows taken p u)
-        go (Step.Fault y) D = λ rows taken p u. same _ ∙ D.0 rows taken p u
-        go (Step.Examine k) D = (e, sp, λ rows taken p u. same _ ∙ ap (λ k. examined d.target k e (tables_with s t d rows taken n p) n) (sym D.0), D.1)
-        go (Step.If k h) D = absurd D
+        go : (r : Result Step) → Decided s t d n l e j r → Told s t d n x i j r
+        go (Ok (Step.Pass m)) D = (D.0, λ paths u. same _ ∙ D.1 paths u)
+        go (Ok (Step.Examine k)) D = (e, sp, λ paths u. same _ ∙ ap (λ k. examined d.target k e (tables_of s t d paths) n) (sym D.0), D.1)
+        go (Ok (Step.If k h)) D = absurd D
+        go (Err y) D = λ paths u. same _ ∙ D.0 paths u
 
     pub told-verify : x ≡ VerifyStatement l e → Told s t d n x i j r
     unfolding examined
@@ -173,48 +192,3 @@ module _ (s t : List ℕ) (d : Declared) (n : ℕ) (x : Statement) (i j : ℕ) (
     pub told-return : x ≡ ExpressionStatement l e → Told s t d n x i j r
     unfolding examined
     told-return h = told-as (λ ts. ap (λ y. statement_held y d.target ts n) h ∙ held-return l e d.target ts n)
-
--- from the if-block on path n to the next path, whose table is p's; v is the table after the condition
-module _ (s t : List ℕ) (d : Declared) (n : ℕ) (p : Path) (l : Location) (v : Table) where
-  -- no such path
-  none-next : (rows : List (List NamePlace)) (taken : List ℕ) → d.count ≤ suc n → crossing l v n (tables_with s t d rows taken (suc n) p) (suc n) ≡ err (fault DeclarationPathMismatch l)
-  unfolding table_at
-  none-next rows taken h =
-      let past = table-past s t d rows taken (suc n) h in
-      held-cross l v _ ∙ rw (set_past (tables_of s t d rows taken) (suc n) (table_of s t p) past, past, table_at)
-
-  pub crossed-past : (u : Used) → d.count ≤ suc n → u.answer ≡ Fault (fault DeclarationPathMismatch l) → Tried s t d (suc n) p (crossing l v n) 0 u
-  crossed-past u h a = record {
-    passes = λ m b. let f : ◌≡◌ {A = Answer} (Fault (fault DeclarationPathMismatch l)) (Pass m) = sym a ∙ b in let o : ◌≡◌ {A = ℕ} 0 1 = cc in absurd (omega arith);
-    stops = λ x b rows taken.
-        let f : ◌≡◌ {A = Answer} (Fault (fault DeclarationPathMismatch l)) (Fault x) = sym a ∙ b in
-        let g : ◌≡◌ {A = CompileError} (fault DeclarationPathMismatch l) x = cc in
-        none-next rows taken h ∙ ap err g;
-  }
-
-  -- the rule on the two paths
-  pub crossed : (u : Used) → suc n < d.count → InUse s t d (suc n) p → Walked s t p (transfer l v (table_of s t p)) 0 u → Tried s t d (suc n) p (crossing l v n) 0 u
-  unfolding table_at
-  crossed u within r w = record {
-    passes = λ m a. (
-      (w.onward m a).next,
-      record {
-        result = λ rows taken. held-cross l v _ ∙ rw (there rows taken, table_at, result-pass s t u w.result a) (ap (λ ts. ok (record { tables = ts; branch = suc n })) (set-set (tables_of s t d rows taken) (suc n) (table_of s t p) (table_of s t u.path)));
-        in_use = stays s t d (suc n) r u (w.onward m a);
-      },
-    );
-    stops = λ x a rows taken. held-cross l v _ ∙ rw (there rows taken, table_at, result-fault s t u w.result a);
-  }
-    where
-      there : (rows : List (List NamePlace)) (taken : List ℕ) → get_elem? (tables_with s t d rows taken (suc n) p) (suc n) ≡ some (table_of s t p)
-      there rows taken = element-set (tables_of s t d rows taken) (suc n) (table_of s t p) (table_of s t (path_at d rows taken (suc n))) (table-at s t d rows taken (suc n) within)
-
-  -- after a pass that path is one of those declared
-  pub crossed-within : (u : Used) (T : Tried s t d (suc n) p (crossing l v n) 0 u) {m : ℕ} → u.answer ≡ Pass m → suc n < d.count
-  crossed-within u T {m} a = go (ltb (suc n) d.count) refl
-    where
-      go : (b : Bool) → ltb (suc n) d.count ≡ b → suc n < d.count
-      go true q = ltb-true (suc n) d.count q
-      go false q =
-          let f : ◌≡◌ {A = Result Held} (err (fault DeclarationPathMismatch l)) (ok (record { tables = tables_with s t d [] [] (suc n) u.path; branch = suc n })) = sym (none-next [] [] (ltb-false (suc n) d.count q)) ∙ (T.passes m a).1.result [] [] in
-          let o : ◌≡◌ {A = ℕ} 0 1 = cc in absurd (omega arith)

@@ -5,11 +5,11 @@ use mathlib.Core.List.{List, [], ◌∷◌}
 use mathlib.Core.Path.{◌≡◌, refl, sym, ap, ◌∙◌}
 use borrow.Author.Tests.{eq-eqb, ne_eqb}
 use lib.ListN.{length, get_or}
+use Rattle.std.specs.Prelude.{Ok, Err}
 use Rattle.ast.specs.declared.Location.{Location}
 use Rattle.ast.specs.declared.Type.{«Type» as ItemType}
 use Rattle.ast.specs.declared.ErrorKind.TheVariants.{DeclarationPathMismatch}
 use Rattle.ast.specs.declared.CompileError.{CompileError}
-use Rattle.ast.specs.declared.Checked.TheVariants.{Ok, Err}
 use Rattle.ast.specs.Tree.{StackParam, Declaration, Contract, fault, nowhere}
 use Rattle.text.specs.declared.Place.{Place}
 use Rattle.listing.specs.declared.Line.{Line}
@@ -24,7 +24,7 @@ use Rattle.rules.specs.Analyze.{first_item, counted}
 use Rattle.names.specs.declared.Item.{Item}
 use Rattle.names.specs.Items.{HoldsItem, line_of}
 use Rattle.declarations.specs.declared.Declared.{Declared}
-use Rattle.declarations.specs.Items.{DeclaredAs, Given}
+use Rattle.declarations.specs.Items.{item_rows, DeclaredAs, Given}
 
 pub block-stands : {s t : List ℕ} {d : Declared} → Given s t d → BlockAt s t d.block
 block-stands G = record { tree = G.contract.block; next = G.count; spells = G.declared.block; count = G.count; within = omega arith; rows = G.rows }
@@ -64,11 +64,11 @@ module _ {s t : List ℕ} {d : Declared} {c : Contract} {n : ℕ} (D : DeclaredA
       go [] k e = absurd (h k)
       go (z ∷ ds) k e = f ds ∙ ap (λ x. first_item (x ∷ ds)) (sym e)
 
-  pub first-empty : (d.count ≡ 0 → ⊥) → get_or d.counts 0 0 ≡ 0 → nowhere ≡ first_item c.declarations
+  pub first-empty : (d.count ≡ 0 → ⊥) → (item_rows d 0).count ≡ 0 → nowhere ≡ first_item c.declarations
   unfolding first_item
   first-empty h k = from-head [] h (none_of s (D.items 0 (omega arith)).spells k) nowhere (λ ds. refl)
 
-  pub first_some : (d.count ≡ 0 → ⊥) → (get_or d.counts 0 0 ≡ 0 → ⊥) → (p : Item) → line_in t (get_or d.firsts 0 0) ≡ line_of p → p.loc ≡ first_item c.declarations
+  pub first_some : (d.count ≡ 0 → ⊥) → ((item_rows d 0).count ≡ 0 → ⊥) → (p : Item) → line_in t (item_rows d 0).first ≡ line_of p → p.loc ≡ first_item c.declarations
   unfolding first_item
   first_some h k p e =
       let f = first_of (D.items 0 (omega arith)).spells k in
@@ -80,16 +80,16 @@ module _ {s t : List ℕ} {d : Declared} {c : Contract} {n : ℕ} (D : DeclaredA
   pub shape-fault : {x : CompileError} → flow c.block ≡ Err x → Err x ≡ both (flow c.block) (counted (count c.block) c.declarations)
   shape-fault e = rw e
 
-  pub shape-even : flow c.block ≡ Ok → count c.block ≡ d.count → Ok ≡ both (flow c.block) (counted (count c.block) c.declarations)
+  pub shape-even : flow c.block ≡ Ok tt → count c.block ≡ d.count → Ok tt ≡ both (flow c.block) (counted (count c.block) c.declarations)
   unfolding counted
   shape-even e k = rw (e, eq-eqb (length c.declarations) (count c.block) (sym D.count ∙ sym k), counted)
 
-  pub shape-odd : {l : Location} → flow c.block ≡ Ok → (count c.block ≡ d.count → ⊥) → l ≡ first_item c.declarations → Err (fault DeclarationPathMismatch l) ≡ both (flow c.block) (counted (count c.block) c.declarations)
+  pub shape-odd : {l : Location} → flow c.block ≡ Ok tt → (count c.block ≡ d.count → ⊥) → l ≡ first_item c.declarations → Err (fault DeclarationPathMismatch l) ≡ both (flow c.block) (counted (count c.block) c.declarations)
   unfolding counted
   shape-odd e k q = rw (e, ne_eqb (length c.declarations) (count c.block) (λ z. k (sym z ∙ sym D.count)), counted, q)
 
 -- the first item's line
-pub first_holds : {s t : List ℕ} {d : Declared} → Given s t d → (d.count ≡ 0 → ⊥) → (get_or d.counts 0 0 ≡ 0 → ⊥) → HoldsItem t (get_or d.firsts 0 0)
+pub first_holds : {s t : List ℕ} {d : Declared} → Given s t d → (d.count ≡ 0 → ⊥) → ((item_rows d 0).count ≡ 0 → ⊥) → HoldsItem t (item_rows d 0).first
 first_holds {s} {t} {d} G h k =
     let I = G.declared.items 0 (omega arith) in
     let f = first_of I.spells k in

@@ -1,41 +1,45 @@
 -- Items left over, path by path.
-use Prim.Native.Nat.{ℕ, suc, ◌+◌, ◌-◌, ◌≤◌, ◌<◌}
+use Prim.Native.Nat.{ℕ, zero, suc, ◌+◌, ◌≤◌, ◌<◌}
+use native.Mathlib.Numerals.{add-one}
 use native.Mathlib.Omega.{arith}
-use mathlib.Core.List.{List}
-use mathlib.Core.Path.{◌≡◌}
+use mathlib.Core.List.{List, [], ◌∷◌}
+use mathlib.Core.Option.{Option, some, none}
+use mathlib.Core.Path.{◌≡◌, refl, sym, ap, ◌∙◌}
+use lib.ListN.{length, drop, get_elem?, drop_of_length-le}
+use Rattle.std.specs.Prelude.{Ok, Err, IsErrAnd}
+use Rattle.std.proofs.lemmas.Result.{err_from_is_err_and}
 use Rattle.ast.specs.declared.CompileError.{CompileError}
-use Rattle.ast.specs.declared.Checked.{Checked}
-use Rattle.ast.specs.declared.Checked.TheVariants.{Ok, Err}
+use Rattle.rules.specs.Result.{Checked}
+use Rattle.rules.specs.Table.{Table}
 use Rattle.rules.specs.Unused.{unused, unused_all}
-use Rattle.paths.specs.declared.NamePlace.{NamePlace}
+use Rattle.paths.specs.declared.Path.{Path}
 use Rattle.paths.specs.Path.{table_of}
 use Rattle.declarations.specs.declared.Declared.{Declared}
-use Rattle.tables.specs.State.{path_at, tables_from, tables_of}
+use Rattle.tables.specs.State.{path_at, tables_of, Ready}
+use Rattle.tables.proofs.State.{enough, table-at, tables-length}
 
-module _ (s t : List ℕ) (d : Declared) (rows : List (List NamePlace)) (taken : List ℕ) where
+drop-element : {A : Type 0} (xs : List A) (i : ℕ) {x : A} → get_elem? xs i ≡ some x → drop i xs ≡ x ∷ drop (suc i) xs
+drop-element [] i h = cc
+drop-element (y ∷ xs) zero h = let e : y ≡ _ = cc in ap (λ z. z ∷ xs) e
+drop-element (y ∷ xs) (suc i) h = drop-element xs i h
+
+module _ {s t : List ℕ} {d : Declared} {paths : List Path} (r : Ready s t d paths) where
   -- what is left to ask from path p on
   abbrev pub Left : ℕ → Checked
-  Left p = unused_all (tables_from s t d rows taken p (d.count - p))
+  Left p = unused_all (drop p (tables_of s t d paths))
 
-  pub left-all : Left 0 ≡ unused_all (tables_of s t d rows taken)
-  unfolding tables_of
-  left-all = let z : d.count - 0 ≡ d.count = omega arith in rw z
+  module _ {p : ℕ} (more : p < d.count) {c : Checked} (here : c ≡ unused (table_of s t (path_at paths p))) where
+    split : Left p ≡ unused_all (table_of s t (path_at paths p) ∷ drop (p + 1) (tables_of s t d paths))
+    split = ap unused_all (drop-element (tables_of s t d paths) p (table-at s t d paths (enough r) p more) ∙ rw add-one)
 
-  module _ {p : ℕ} (more : p < d.count) where
-    one : d.count - p ≡ suc (d.count - (p + 1))
-    one = omega arith
+    pub left-err : {x : CompileError} → c ≡ Err x → {e : Checked} → IsErrAnd e (λ y. y ≡ x) → e ≡ Left p
+    unfolding unused_all
+    left-err q {e} h = let (y, k, l) = err_from_is_err_and e h in k ∙ ap Err l ∙ sym (split ∙ rw (sym here ∙ q, unused_all))
 
-    next : suc p ≡ p + 1
-    next = omega arith
+    pub left-ok : c ≡ Ok tt → Left (p + 1) ≡ Left p
+    unfolding unused_all
+    left-ok q = sym (split ∙ rw (sym here ∙ q, unused_all))
 
-    pub left-err : {x : CompileError} → unused (table_of s t (path_at d rows taken p)) ≡ Err x → Err x ≡ Left p
-    unfolding tables_from unused_all
-    left-err e = rw (one, e, unused_all)
-
-    pub left-ok : unused (table_of s t (path_at d rows taken p)) ≡ Ok → Left (p + 1) ≡ Left p
-    unfolding tables_from unused_all
-    left-ok e = rw (one, e, unused_all, next)
-
-  pub left-none : {p : ℕ} → d.count ≤ p → Ok ≡ Left p
-  unfolding tables_from unused_all
-  left-none {p} h = let z : d.count - p ≡ 0 = omega arith in rw z
+  pub left-none : {p : ℕ} → d.count ≤ p → Ok tt ≡ Left p
+  unfolding unused_all
+  left-none {p} h = rw (drop_of_length-le (tables_of s t d paths) {i = p} (omega (arith, tables-length s t d paths (enough r))), unused_all)

@@ -1,9 +1,9 @@
 -- The walk as the code holds it: the tables of all paths, and the path in use. The waits that it meets stay in their rows.
-use Rattle.std.specs.Prelude.{ℕ, List, []}
+use Rattle.std.specs.Prelude.{ℕ, List, [], Ok, Err}
 use Rattle.ast.specs.declared.Location.{Location}
 use Rattle.ast.specs.declared.Target.{Target}
 use Rattle.ast.specs.Tree.{Expression, Statement, Block}
-use Rattle.rules.specs.Result.{Result, ok, err}
+use Rattle.rules.specs.Result.{Result}
 use Rattle.rules.specs.Table.{Table}
 use Rattle.rules.specs.Walk.{Walked, examine_at, cross, walk_statement, walk}
 use Rattle.rules.specs.Analyze.{Analysis}
@@ -14,8 +14,8 @@ pub record Held : Type 0 where
 
 -- what a walk comes to, its waits aside
 abbrev pub held : Result Walked → Result Held
-held (ok w) = ok (record { tables = w.tables; branch = w.branch })
-held (err x) = err x
+held (Ok w) = Ok (record { tables = w.tables; branch = w.branch })
+held (Err x) = Err x
 
 -- on a path, no wait being met
 abbrev pub on : List Table → ℕ → Walked
@@ -36,5 +36,5 @@ cross_held l t h = held (cross l t (on h.tables h.branch))
 
 -- what an analysis comes to, its waits aside
 abbrev pub held_tables : Result Analysis → Result (List Table)
-held_tables (ok a) = ok a.tables
-held_tables (err x) = err x
+held_tables (Ok a) = Ok a.tables
+held_tables (Err x) = Err x

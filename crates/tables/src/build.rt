@@ -1,48 +1,23 @@
 // The tables of all paths.
-ghost use Rattle.std.specs.Prelude.{◌≡◌, ℕ, length};
+ghost use Rattle.std.specs.Prelude.{ℕ};
 ghost use Rattle.ast.specs.Tree.{Contract};
+ghost use Rattle.rules.specs.Table.{build_all};
 ghost use Rattle.declarations.specs.Items.{DeclaredAs, Given};
-ghost use Rattle.tables.specs.State.{Moved, branch_in, started};
+ghost use Rattle.tables.specs.State.{Answered};
 
-use crate::{clear_taken, no_rows, put_pass, refuse};
+use ast::CompileError;
 use declarations::Declared;
-use nodes::Answer;
-use paths::{NamePlace, build_symbol_table};
+use paths::{Path, build_symbol_table};
+use rows::Rows;
 
-// One table for each declaration, in order; the paths past the last of them are empty.
-pub fn build_tables(
-    listing: &[u8],
-    table: &[u32],
-    d: Declared,
-    taken: &mut [u32; 32],
-    out: &mut [u32; 7],
-) -> [[NamePlace; 32]; 32]
-    requires { Given listing.now table.now d × (length taken.old ≡ 32) × (length out.old ≡ 7) × (branch_in out.old ≡ 0) }
-    ensures { (c : Contract) (n : ℕ) → DeclaredAs listing.now table.now d c n → Moved listing.now table.now d (started c.declarations) d.block result taken.new out.new }
+// The path of each declaration, in order; those past the last of them have no items.
+pub fn build_tables(rows: &Rows<'_>, d: Declared) -> Result<[Path; 32], CompileError>
+    requires { Given rows.now.listing.now rows.now.table.now d }
+    ensures { (c : Contract) (n : ℕ) → DeclaredAs rows.now.listing.now rows.now.table.now d c n → Answered rows.now.listing.now rows.now.table.now d (build_all c.declarations) result }
 {
-    clear_taken(taken);
-    let mut rows = no_rows();
-    let firsts = d.firsts;
-    let counts = d.counts;
-    let count = d.count;
-    let mut p: u32 = 0;
-    while p < count {
-        let at = p as usize;
-        let u = build_symbol_table(listing, table, firsts[at] as usize, counts[at]);
-        let a = u.answer;
-        match a {
-            Answer::Fault(x) => {
-                return refuse(taken, out, x);
-            }
-            Answer::Pass(_) => {
-                let path = u.path;
-                let places = path.places;
-                rows[at] = places;
-                taken[at] = path.taken;
-            }
-        }
-        p += 1;
+    let mut paths = [Path::empty(); 32];
+    for p in 0..d.count as usize {
+        paths[p] = build_symbol_table(rows, d.items[p])?;
     }
-    put_pass(out, d.block);
-    rows
+    Ok(paths)
 }

@@ -7,51 +7,37 @@ ghost use Rattle.rules.specs.Flow.{flow};
 ghost use Rattle.rules.specs.Analyze.{first_item, counted};
 ghost use Rattle.declarations.specs.Items.{DeclaredAs, Given};
 
-use ast::{Checked, CompileError, ErrorKind, Location, nowhere};
+use ast::{CompileError, ErrorKind, Location, nowhere};
 use declarations::Declared;
 use flow::flow::check_flow;
 use flow::necessity::count_paths;
 use names::item_at;
-use nodes::Answer;
 
 // Where the first item of the first declaration stands, or 0,0,1,0.
 pub fn first_item(table: &[u32], d: Declared) -> Location
     requires { (s : List ℕ) × Given s table.now d }
     ensures { (s : List ℕ) (c : Contract) (n : ℕ) → DeclaredAs s table.now d c n → result ≡ first_item c.declarations }
 {
-    let firsts = d.firsts;
-    let counts = d.counts;
     if d.count == 0 {
         return nowhere();
     }
-    if counts[0] == 0 {
+    let rows = d.items[0];
+    if rows.count == 0 {
         return nowhere();
     }
-    let it = item_at(table, firsts[0] as usize);
-    it.loc
+    item_at(table, rows.first as usize).loc
 }
 
 // Flow, then as many declarations as paths.
-pub fn check_shape(table: &[u32], d: Declared) -> Checked
+pub fn check_shape(table: &[u32], d: Declared) -> Result<(), CompileError>
     requires { (s : List ℕ) × Given s table.now d }
     ensures { (s : List ℕ) (c : Contract) (n : ℕ) → DeclaredAs s table.now d c n → result ≡ both (flow c.block) (counted (count c.block) c.declarations) }
 {
-    let block = d.block;
-    let a = check_flow(table, block as usize);
-    match a {
-        Answer::Fault(x) => {
-            return Checked::Err(x);
-        }
-        Answer::Pass(_) => {}
-    }
-    let paths = count_paths(table, block as usize);
-    let n = paths.count;
-    if n == d.count {
-        return Checked::Ok;
+    let block = d.block as usize;
+    check_flow(table, block)?;
+    if count_paths(table, block).count == d.count {
+        return Ok(());
     }
     let loc = first_item(table, d);
-    Checked::Err(CompileError {
-        loc,
-        kind: ErrorKind::DeclarationPathMismatch,
-    })
+    Err(CompileError::new(ErrorKind::DeclarationPathMismatch, loc))
 }

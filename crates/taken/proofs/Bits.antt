@@ -47,8 +47,8 @@ or-bit x (suc k) =
     go (inr e) = rw e
 
 -- `x | (1 << k)`
-pub bit-set : (x k : ℕ) → k < 32 → bit_or x (1 * 2 ^ k % 2 ^ 32) ≡ with_bit x k
-bit-set x k h = ap (bit_or x) (shl_one k h) ∙ or-bit x k
+pub bit_set : (x k : ℕ) → k < 32 → bit_or x (1 * 2 ^ k % 2 ^ 32) ≡ with_bit x k
+bit_set x k h = ap (bit_or x) (shl_one k h) ∙ or-bit x k
 
 -- a set of n positions with one of them more
 pub bit-within : (n x k : ℕ) → k < n → x < 2 ^ n → with_bit x k < 2 ^ n
@@ -132,9 +132,9 @@ trailing-free (suc w) x h = go (parity x) (trailing-free w (x / 2) (omega (arith
     go (inr e) ih = not-odd w x h e ∙ ap suc ih ∙ sym (free-odd w x e)
 
 -- `trailing_zeros(!x)`
-pub first-free : (x : ℕ) → x < 2 ^ 32 → count_trailing_zeros 32 ((2 ^ 32 - 1) - x) ≡ first_free x
+pub first_free_counted : (x : ℕ) → x < 2 ^ 32 → count_trailing_zeros 32 ((2 ^ 32 - 1) - x) ≡ first_free x
 unfolding first_free
-first-free x h = trailing-free 32 x h
+first_free_counted x h = trailing-free 32 x h
 
 -- a position before the first free one is taken
 before-free : (w x k : ℕ) → k < free_in w x → bit_at x k ≡ 1
@@ -196,9 +196,9 @@ run-counts (suc w) x h = go (parity x) (run-counts w (x / 2) (omega (arith, pow-
         ap₂ eqb one_more (not-odd w x h e) ∙ same_test (suc (ones (x / 2))) (suc (count_trailing_zeros w ((2 ^ w - 1) - x / 2))) (ones (x / 2)) (count_trailing_zeros w ((2 ^ w - 1) - x / 2)) (λ q. omega arith) (λ q. ap suc q) ∙ ih ∙ sym (run-odd w x e)
 
 -- `count_ones(x) == trailing_zeros(!x)`
-pub run-test : (x : ℕ) → x < 2 ^ 32 → eqb (ones x) (count_trailing_zeros 32 ((2 ^ 32 - 1) - x)) ≡ is_run x
+pub run_test : (x : ℕ) → x < 2 ^ 32 → eqb (ones x) (count_trailing_zeros 32 ((2 ^ 32 - 1) - x)) ≡ is_run x
 unfolding is_run
-run-test x h = run-counts 32 x h
+run_test x h = run-counts 32 x h
 
 -- ---- runs
 

@@ -6,13 +6,13 @@ use mathlib.Core.Bool.{Bool, true, false}
 use mathlib.Core.List.{List, [], ◌∷◌}
 use mathlib.Core.Option.{some, none}
 use mathlib.Core.Path.{◌≡◌, refl, sym, ap, ◌∙◌}
-use borrow.Author.Tests.{ltb-true, ltb-false, leb-true, lt-leb, le-leb, eq-eqb, ne_eqb}
+use borrow.Author.Tests.{ltb-true, ltb-false, leb-true, le-leb, eq-eqb, ne_eqb}
 use lib.Dec.{leb, ltb}
 use lib.ListN.{length, drop, get_or, get_elem?, drop_of_length-le}
 use lib.Seq.{drop-cons}
-use Rattle.text.specs.Text.{Got, got, failed, given, read_at, ◌>>=◌, yield, fail, guard, byte, within, is_digit, digits, decimal, capped, up_to, word, index, choice, run}
+use Rattle.text.specs.Text.{Got, got, failed, ◌>>=◌, yield, fail, guard, byte, within, is_digit, digits, decimal, capped, up_to, word, index, choice, run, run_end, position_after}
 use Rattle.text.proofs.Every.{Every}
-use Rattle.text.proofs.Places.{digits-grow, run-from, run_length, run-total, got-place}
+use Rattle.text.proofs.Places.{run-from, run_length, run-total, got-place}
 
 -- the byte that had to stand there, another, none
 pub byte-same : (b : ℕ) (s : List ℕ) (i : ℕ) → i < length s → get_or s i 0 ≡ b → byte b i (drop i s) ≡ got (get_or s i 0) (i + 1) (drop (i + 1) s)
@@ -49,27 +49,6 @@ digits-stop v s i h d = rw (drop-cons s i 0 h, d, digits)
 pub digits-past : (v : ℕ) (s : List ℕ) (i : ℕ) → length s ≤ i → digits v i (drop i s) ≡ got v i (drop i s)
 unfolding digits
 digits-past v s i h = rw (drop_of_length-le s h)
-
--- the same under a limit, as the code answers it
-module _ {R : Type 0} (good : ℕ → ℕ → R) (bad : R) (s : List ℕ) (limit : ℕ) where
-  abbrev pub Digits : ℕ → ℕ → R
-  Digits v i = read_at good bad (capped limit (digits v)) s i
-
-  pub capped-step : (v i : ℕ) → i < length s → is_digit (get_or s i 0) ≡ true → Digits (v * 10 + (get_or s i 0 - 48)) (i + 1) ≡ Digits v i
-  unfolding read_at given capped ◌>>=◌
-  capped-step v i h d = rw (digits_step v s i h d, ◌>>=◌)
-
-  pub capped-got : (v i : ℕ) → v ≤ limit → digits v i (drop i s) ≡ got v i (drop i s) → good v i ≡ Digits v i
-  unfolding read_at given capped ◌>>=◌ guard
-  capped-got v i h e = rw (e, ◌>>=◌, le-leb v limit h, guard)
-
-  pub capped-over : (v i : ℕ) → limit < v → bad ≡ Digits v i
-  unfolding read_at given capped ◌>>=◌ guard
-  capped-over v i h = go (digits v i (drop i s)) refl
-    where
-      go : (x : Got ℕ) → digits v i (drop i s) ≡ x → bad ≡ Digits v i
-      go (got a m t) e = let g = digits-grow (drop i s) v i a m t e in let w : limit < a = omega arith in rw (e, ◌>>=◌, lt-leb a limit w, guard)
-      go failed e = rw (e, ◌>>=◌)
 
 -- a number from 0 to the limit: no byte, a zero, another digit, another byte
 pub decimal-past : (limit : ℕ) (s : List ℕ) (i : ℕ) → length s ≤ i → up_to limit i (drop i s) ≡ failed
@@ -154,47 +133,43 @@ module _ (p : ℕ → Bool) where
   unfolding run
   run_past k s i h = rw (drop_of_length-le s h)
 
-  -- the position after a span, as the code answers it
-  abbrev pub End : List ℕ → ℕ → ℕ
-  End s i = read_at (λ k n. n) 0 (run p 0) s i
-
   -- however many bytes passed before
-  end-count : (u : List ℕ) (k n : ℕ) → given (λ k n. n) 0 (run p (suc k) n u) ≡ given (λ k n. n) 0 (run p k n u)
-  unfolding run given
+  end-count : (u : List ℕ) (k n : ℕ) → position_after (run p (suc k) n u) ≡ position_after (run p k n u)
+  unfolding run
   end-count [] k n = refl
   end-count (x ∷ u) k n = go (p x) refl (end-count u (suc k) (suc n))
     where
-      go : (b : Bool) → p x ≡ b → given (λ k n. n) 0 (run p (suc (suc k)) (suc n) u) ≡ given (λ k n. n) 0 (run p (suc k) (suc n) u) → given (λ k n. n) 0 (run p (suc k) n (x ∷ u)) ≡ given (λ k n. n) 0 (run p k n (x ∷ u))
+      go : (b : Bool) → p x ≡ b → position_after (run p (suc (suc k)) (suc n) u) ≡ position_after (run p (suc k) (suc n) u) → position_after (run p (suc k) n (x ∷ u)) ≡ position_after (run p k n (x ∷ u))
       go true e ih = rw (e, run) ih
       go false e ih = rw (e, run)
 
-  pub end_step : (s : List ℕ) (i : ℕ) → i < length s → p (get_or s i 0) ≡ true → End s (i + 1) ≡ End s i
-  unfolding read_at given
-  end_step s i h d = rw (run_step 0 s i h d) (sym (end-count (drop (i + 1) s) 0 (i + 1)))
+  pub end_step : (s : List ℕ) (i : ℕ) → i < length s → p (get_or s i 0) ≡ true → run_end p s (i + 1) ≡ run_end p s i
+  unfolding run_end
+  end_step s i h d = rw (run_end, run_step 0 s i h d) (sym (end-count (drop (i + 1) s) 0 (i + 1)))
 
-  pub end-stop : (s : List ℕ) (i : ℕ) → i < length s → p (get_or s i 0) ≡ false → i ≡ End s i
-  unfolding read_at given
-  end-stop s i h d = rw (run-stop 0 s i h d)
+  pub end-stop : (s : List ℕ) (i : ℕ) → i < length s → p (get_or s i 0) ≡ false → i ≡ run_end p s i
+  unfolding run_end
+  end-stop s i h d = rw (run_end, run-stop 0 s i h d)
 
-  pub end-past : (s : List ℕ) (i : ℕ) → length s ≤ i → i ≡ End s i
-  unfolding read_at given
-  end-past s i h = rw (run_past 0 s i h)
+  pub end-past : (s : List ℕ) (i : ℕ) → length s ≤ i → i ≡ run_end p s i
+  unfolding run_end
+  end-past s i h = rw (run_end, run_past 0 s i h)
 
   -- many bytes at once
-  pub end-steps : (s : List ℕ) (i n : ℕ) → i + n ≤ length s → Every (λ j. p (get_or s (i + j) 0)) n → End s (i + n) ≡ End s i
+  pub end-steps : (s : List ℕ) (i n : ℕ) → i + n ≤ length s → Every (λ j. p (get_or s (i + j) 0)) n → run_end p s (i + n) ≡ run_end p s i
   end-steps s i zero h e = let q : i + 0 ≡ i = omega arith in rw q
   end-steps s i (suc n) h e =
       let q : i + suc n ≡ i + n + 1 = omega arith in
       rw q (end_step s (i + n) (omega arith) (e n (omega arith)) ∙ end-steps s i n (omega arith) (λ j l. e j (omega arith)))
 
   -- what the position after a span says of it
-  pub end-run : (s : List ℕ) (n : ℕ) {m : ℕ} → m ≡ End s n → (n ≤ m) × (run p 0 n (drop n s) ≡ got (m - n) m (drop m s))
-  unfolding read_at given
+  pub end-run : (s : List ℕ) (n : ℕ) {m : ℕ} → m ≡ run_end p s n → (n ≤ m) × (run p 0 n (drop n s) ≡ got (m - n) m (drop m s))
+  unfolding run_end
   end-run s n {m} h = go (run p 0 n (drop n s)) refl
     where
       go : (x : Got ℕ) → run p 0 n (drop n s) ≡ x → (n ≤ m) × (run p 0 n (drop n s) ≡ got (m - n) m (drop m s))
       go (got a k t) e =
-          let q : m ≡ k = h ∙ ap (given (λ k n. n) 0) e in
+          let q : m ≡ k = h ∙ ap position_after e in
           let l : a + n ≡ 0 + k = run_length (drop n s) p 0 n a k t e in
           let d : a ≡ m - n = omega arith in
           (omega arith, got-place (run p 0) (λ s n u. run-from u p 0 s n) s n {t = t} (e ∙ cc))

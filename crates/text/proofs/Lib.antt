@@ -1,4 +1,4 @@
 pub mod Places
 pub mod Fields
-pub mod Told
 pub mod Every
+pub mod Cursors

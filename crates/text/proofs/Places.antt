@@ -250,11 +250,3 @@ bind-got r f s n h = rw (h, ◌>>=◌) refl
 pub bind-failed : {A B : Type 0} (r : Reader A) (f : A → Reader B) (s : List ℕ) (n : ℕ) → r n (drop n s) ≡ failed → (r >>= f) n (drop n s) ≡ failed
 unfolding ◌>>=◌
 bind-failed r f s n h = rw (h, ◌>>=◌) refl
-
-pub then-got : {A B : Type 0} (r : Reader A) (q : Reader B) (s : List ℕ) (n : ℕ) {a : A} {m : ℕ} → r n (drop n s) ≡ got a m (drop m s) → (r >> q) n (drop n s) ≡ q m (drop m s)
-unfolding ◌>>◌
-then-got r q s n h = bind-got r (λ _. q) s n h
-
-pub then-failed : {A B : Type 0} (r : Reader A) (q : Reader B) (s : List ℕ) (n : ℕ) → r n (drop n s) ≡ failed → (r >> q) n (drop n s) ≡ failed
-unfolding ◌>>◌
-then-failed r q s n h = bind-failed r (λ _. q) s n h

@@ -1,10 +1,11 @@
 -- Reading a text from the left. A reader is given how many bytes precede and the bytes from there on.
-use Rattle.std.specs.Prelude.{ℕ, suc, ◌+◌, ◌*◌, ◌-◌, ◌^◌, ◌%◌, Bool, true, false, ◌&&◌, ◌||◌, List, [], ◌∷◌, leb, ltb, eqb, take, drop}
+use Rattle.std.specs.Prelude.{Option, Some, None, option_map, ℕ, suc, ◌+◌, ◌*◌, ◌-◌, ◌^◌, ◌%◌, Bool, true, false, ◌&&◌, ◌||◌, List, [], ◌∷◌, leb, ltb, eqb, take, drop}
 use Rattle.std.proofs.Math.Option.{some, none}
 use Rattle.std.proofs.Math.ListN.{get_elem?}
 use Rattle.ast.specs.declared.Location.{Location}
 use Rattle.ast.specs.declared.Signed.{Signed}
 use Rattle.text.specs.declared.Place.{Place}
+use Rattle.text.specs.declared.Cursor.{Cursor}
 
 -- what a reader gives: a value, the position after it and the bytes from there on; or nothing
 pub data Got (A : Type 0) : Type 0 where
@@ -16,14 +17,23 @@ Reader A = ℕ → List ℕ → Got A
 
 infixl 20 ◌>>=◌ ◌>>◌
 infixr 30 ◌<∘>◌
--- as the code has it: a value and the position after it, or nothing
-unfoldable pub given : {A R : Type 0} → (A → ℕ → R) → R → Got A → R
-given good bad (got a n s) = good a n
-given good bad failed = bad
+-- as the code has it: a value and the cursor after it, or nothing
+abbrev pub given : {A : Type 0} → Cursor → Got A → Option (A × Cursor)
+given c (got a n s) = Some (a, record c { at = n })
+given c failed = None
 
--- what a reader gives from position n of a listing on
-unfoldable pub read_at : {A R : Type 0} → (A → ℕ → R) → R → Reader A → List ℕ → ℕ → R
-read_at good bad r s n = given good bad (r n (drop n s))
+-- what a reader gives from a cursor on
+unfoldable pub read : {A : Type 0} → Reader A → Cursor → Option (A × Cursor)
+read r c = given c (r c.at (drop c.at c.listing.now))
+
+-- the position after what a reader gives, 0 where it gives nothing
+abbrev pub position_after : {A : Type 0} → Got A → ℕ
+position_after (got a n s) = n
+position_after failed = 0
+
+-- the cursor after what a reader reads
+abbrev pub after : {A : Type 0} → Reader A → Cursor → Option Cursor
+after r c = option_map (λ p. p.1) (read r c)
 
 -- one reader, then another
 unfoldable pub ◌>>=◌ : {A B : Type 0} → Reader A → (A → Reader B) → Reader B
@@ -152,6 +162,10 @@ is_hex_digit b = is_digit b || within 97 102 b
 unfoldable pub run : (ℕ → Bool) → ℕ → Reader ℕ
 run p k n [] = got k n []
 run p k n (b ∷ s) = elim (p b) [ true ↦ run p (suc k) (suc n) s | false ↦ got k n (b ∷ s) ]
+
+-- the position after the bytes from position n on that pass a test
+unfoldable pub run_end : (ℕ → Bool) → List ℕ → ℕ → ℕ
+run_end p s n = position_after (run p 0 n (drop n s))
 
 -- the part from here on whose bytes pass a test
 unfoldable pub span : (ℕ → Bool) → Reader Place

@@ -1,83 +1,132 @@
-// Reading a text from the left: each function reads one field from a position on.
+// Reading a text from the left: a cursor reads one field from its position on.
 #![tactic(auto)]
 
-ghost use Rattle.std.specs.Prelude.{◌≡◌, true, ◌↔◌, ℕ, ◌+◌, ◌≤◌, ◌<◌, length, get_or};
-ghost use Rattle.text.specs.declared.Skipped.{Skipped};
-ghost use Rattle.text.specs.declared.PlaceRead.{PlaceRead};
-ghost use Rattle.text.specs.Text.{read_at, byte, within, is_digit, is_name_byte, is_hex_digit, run, name, literal};
+ghost use Rattle.std.specs.Prelude.{◌≡◌, Bool, true, ◌↔◌, ℕ, ◌+◌, ◌-◌, ◌≤◌, ◌<◌, if◌then◌else◌, length, drop, get_or};
+ghost use Rattle.std.specs.List.{list_all};
+ghost use Rattle.text.specs.Text.{read, after, byte, within, is_digit, is_name_byte, is_hex_digit, run, run_end, name, literal, part};
 
 use ast::{Location, Signed};
 
 // A part of the listing: how many bytes precede it, and how many it has.
-#[derive(Clone, Copy)]
+#[derive(Clone, Copy, PartialEq, Eq)]
 pub struct Place {
     pub at: usize,
     pub len: usize,
 }
 
-// A byte that had to stand at a position: the position after it.
-#[derive(Clone, Copy)]
-pub enum Skipped {
-    To(usize),
-    Failed,
+impl Place {
+    // Its bytes in the listing.
+    #[tactic(auto, unfolding(crate::specs::Text::part))]
+    pub fn of(self, listing: &[u8]) -> &[u8]
+        requires { self.at + self.len ≤ length listing.now }
+        ensures { result.now ≡ part listing.now self }
+    {
+        &listing[self.at..self.at + self.len]
+    }
 }
 
-// What the reader of a field gives: its value and the position after it, or nothing.
+pub const COMMA: u8 = b',';
+
+// A position in a listing, from which fields are read.
 #[derive(Clone, Copy)]
-pub enum WordRead {
-    Got(u32, usize),
-    Failed,
+pub struct Cursor<'a> {
+    pub listing: &'a [u8],
+    pub at: usize,
 }
 
-#[derive(Clone, Copy)]
-pub enum SignedRead {
-    Got(Signed, usize),
-    Failed,
-}
-
-#[derive(Clone, Copy)]
-pub enum PlaceRead {
-    Got(Place, usize),
-    Failed,
-}
-
-#[derive(Clone, Copy)]
-pub enum LocationRead {
-    Got(Location, usize),
-    Failed,
-}
-
-pub const COMMA: u8 = 44;
-
-// The byte `b` itself.
-pub fn skip(listing: &[u8], at: usize, b: u8) -> Skipped
-    ensures { result ≡ read_at (λ x n. Skipped.To n) Skipped.Failed (byte b) listing.now at }
-{
-    if at < listing.len() {
-        if listing[at] == b {
-            return Skipped::To(at + 1);
+impl<'a> Cursor<'a> {
+    // The bytes from here on.
+    pub fn rest(self) -> &'a [u8]
+        ensures { result.now ≡ drop self.entry.at self.entry.listing.now }
+    {
+        if self.at < self.listing.len() {
+            &self.listing[self.at..]
+        } else {
+            &[]
         }
     }
-    Skipped::Failed
-}
 
-// From `low` to `high`, both included.
-pub fn is_within(low: u8, high: u8, b: u8) -> bool
-    ensures { result ≡ within low high b }
-{
-    if low <= b {
-        return b <= high;
+    // The byte `b` itself.
+    pub fn skip(self, b: u8) -> Option<Self>
+        ensures { result ≡ after (byte b) self.entry }
+    {
+        if self.at < self.listing.len() && self.listing[self.at] == b {
+            return Some(Cursor {
+                at: self.at + 1,
+                ..self
+            });
+        }
+        None
     }
-    false
+
+    // The position after the bytes from here on that pass a test.
+    pub fn run_end<F: Fn(u8) -> bool>(self, passes: F) -> usize
+        requires { F.IsAlwaysCallable passes }
+        ensures { (p : ℕ → Bool) → ((b : ℕ) (r : Bool) → F.post passes b r → r ≡ p b) → result ≡ run_end p self.entry.listing.now self.entry.at }
+    {
+        let rest = self.rest();
+        for (k, &b) in rest.iter().enumerate() {
+            if !passes(b) {
+                return self.at + k;
+            }
+        }
+        self.at + rest.len()
+    }
+
+    // The position after the hex digits from here on: 16 at a time while all are digits, the rest byte by byte. A byte is read at most twice.
+    pub fn hex_end(self) -> usize
+        ensures { result ≡ run_end is_hex_digit self.entry.listing.now self.entry.at }
+    {
+        let rest = self.rest();
+        let mut count = 0;
+        while rest.len() - count >= 16 && are_hex(&rest[count..count + 16]) {
+            count += 16;
+        }
+        Cursor {
+            at: self.at + count,
+            ..self
+        }
+        .run_end(is_hex_digit)
+    }
+
+    // A field that is a name: one or more bytes.
+    pub fn read_name(self) -> Option<(Place, Self)>
+        ensures { result ≡ read name self.entry }
+    {
+        let start = self.skip(COMMA)?;
+        let end = start.run_end(is_name_byte);
+        let len = end - start.at;
+        if len == 0 {
+            return None;
+        }
+        Some((Place { at: start.at, len }, Cursor { at: end, ..start }))
+    }
+
+    // A field that is a literal's bytes: pairs of hex digits, possibly none.
+    pub fn read_literal(self) -> Option<(Place, Self)>
+        ensures { result ≡ read literal self.entry }
+    {
+        let start = self.skip(COMMA)?;
+        let end = start.hex_end();
+        let len = end - start.at;
+        if len % 2 != 0 {
+            return None;
+        }
+        Some((Place { at: start.at, len }, Cursor { at: end, ..start }))
+    }
 }
 
-pub fn is_digit(b: u8) -> bool
-    ensures { result ≡ is_digit b }
+// The number that a digit stands for. What lies below the digits wraps around to far above them, so one comparison tells.
+#[tactic(auto, unfolding(crate::specs::Text::is_digit, crate::specs::Text::within))]
+pub fn digit(b: u8) -> Option<u64>
+    ensures { result ≡ (if is_digit b then Some (b - 48) else None) }
 {
-    is_within(48, 57, b)
+    let n = u64::from(b).wrapping_sub(u64::from(b'0'));
+    if n < 10 { Some(n) } else { None }
 }
 
 // An ASCII letter, digit or underscore, tested without a branch.
+#[tactic(auto, unfolding(crate::specs::Text::is_name_byte, crate::specs::Text::is_digit, crate::specs::Text::within))]
 pub fn is_name_byte(b: u8) -> bool
     ensures { result ≡ is_name_byte b }
 {
@@ -85,103 +134,20 @@ pub fn is_name_byte(b: u8) -> bool
 }
 
 // A lower-case hex digit, tested without a branch.
+#[tactic(auto, unfolding(crate::specs::Text::is_hex_digit, crate::specs::Text::is_digit, crate::specs::Text::within))]
 pub fn is_hex_digit(b: u8) -> bool
     ensures { result ≡ is_hex_digit b }
 {
     ((48 <= b) & (b <= 57)) | ((97 <= b) & (b <= 102))
 }
 
-pub fn wide(b: u8) -> u64
-    ensures { result ≡ b }
-{
-    b as u64
-}
-
-// The position after the name's bytes from `at` on.
-pub fn name_end(listing: &[u8], at: usize) -> usize
-    ensures { result ≡ read_at (λ k n. n) 0 (run is_name_byte 0) listing.now at }
-{
-    let mut i = at;
-    while i < listing.len() {
-        if !is_name_byte(listing[i]) {
-            return i;
-        }
-        i += 1;
-    }
-    i
-}
-
-// Whether the 16 bytes from `at` on are hex digits. Each is tested, with no way out before the last, so that they are tested together.
-fn is_hex_run(listing: &[u8], at: usize) -> bool
-    requires { at + 16 ≤ length listing.now }
-    ensures { (result ≡ true) ↔ ((j : ℕ) → j < 16 → is_hex_digit (get_or listing.now (at + j) 0) ≡ true) }
+// Whether bytes are all hex digits, with no way out before the last, so that they are tested together.
+fn are_hex(run: &[u8]) -> bool
+    ensures { result ≡ list_all is_hex_digit run.now }
 {
     let mut ok = true;
-    let mut k: usize = 0;
-    while k < 16 {
-        ok = ok & is_hex_digit(listing[at + k]);
-        k += 1;
+    for &b in run {
+        ok &= is_hex_digit(b);
     }
     ok
-}
-
-// The position after the hex digits from `at` on, byte by byte.
-fn hex_rest(listing: &[u8], at: usize) -> usize
-    ensures { result ≡ read_at (λ k n. n) 0 (run is_hex_digit 0) listing.now at }
-{
-    let mut i = at;
-    while i < listing.len() {
-        if !is_hex_digit(listing[i]) {
-            return i;
-        }
-        i += 1;
-    }
-    i
-}
-
-// The position after the hex digits from `at` on: 16 at a time while all are digits, the rest byte by byte. A byte is read at most twice.
-pub fn hex_end(listing: &[u8], at: usize) -> usize
-    ensures { result ≡ read_at (λ k n. n) 0 (run is_hex_digit 0) listing.now at }
-{
-    if listing.len() < at {
-        return at;
-    }
-    let mut i = at;
-    while 16 <= listing.len() - i {
-        if !is_hex_run(listing, i) {
-            return hex_rest(listing, i);
-        }
-        i += 16;
-    }
-    hex_rest(listing, i)
-}
-
-// A field that is a name: one or more bytes.
-pub fn read_name(listing: &[u8], at: usize) -> PlaceRead
-    ensures { result ≡ read_at PlaceRead.Got PlaceRead.Failed name listing.now at }
-{
-    let Skipped::To(n) = skip(listing, at, COMMA) else {
-        return PlaceRead::Failed;
-    };
-    let end = name_end(listing, n);
-    let len = end - n;
-    if 0 < len {
-        return PlaceRead::Got(Place { at: n, len }, end);
-    }
-    PlaceRead::Failed
-}
-
-// A field that is a literal's bytes: pairs of hex digits, possibly none.
-pub fn read_literal(listing: &[u8], at: usize) -> PlaceRead
-    ensures { result ≡ read_at PlaceRead.Got PlaceRead.Failed literal listing.now at }
-{
-    let Skipped::To(n) = skip(listing, at, COMMA) else {
-        return PlaceRead::Failed;
-    };
-    let end = hex_end(listing, n);
-    let len = end - n;
-    if len % 2 == 0 {
-        return PlaceRead::Got(Place { at: n, len }, end);
-    }
-    PlaceRead::Failed
 }

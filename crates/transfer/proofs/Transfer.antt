@@ -11,14 +11,16 @@ use mathlib.Core.Path.{◌≡◌, refl, sym, ap, ap₂, ◌∙◌, subst}
 use borrow.Author.Tests.{eq-eqb, ne_eqb}
 use lib.Dec.{eqb}
 use lib.ListN.{length, get_or, take, drop, set, get_elem?}
+use Rattle.std.proofs.lemmas.Bool.{and_parts}
+use Rattle.std.specs.Prelude.{Ok}
 use Rattle.ast.specs.declared.Location.{Location}
 use Rattle.ast.specs.declared.ErrorKind.TheVariants.{DeclarationPathMismatch}
 use Rattle.ast.specs.Tree.{same, StackParam}
-use Rattle.rules.specs.Result.{ok, refuse}
+use Rattle.rules.specs.Result.{refuse}
 use Rattle.rules.specs.Table.{Entry, Table}
 use Rattle.rules.specs.Usage.{free, mark as mark_entry}
 use Rattle.rules.specs.Transfer.{placed, untaken, run, hand_one, hand, transfer}
-use Rattle.rules.proofs.Basics.{true≢false', and-true}
+use Rattle.rules.proofs.Basics.{true≢false'}
 use Rattle.names.specs.Items.{item_in}
 use Rattle.paths.specs.declared.NamePlace.{NamePlace}
 use Rattle.paths.specs.declared.Path.{Path}
@@ -83,19 +85,19 @@ module _ (s t : List ℕ) where
 free-none : (o : Option ℕ) → free o ≡ true → o ≡ none
 unfolding free
 free-none none h = refl
-free-none (some m) h = let z : ◌≡◌ {A = ℕ} 0 1 = cc in absurd (omega arith)
+free-none (some m) h = cc
 
 hand-none : (t n : Table) → untaken t ≡ true → hand t n ≡ n
 unfolding untaken hand hand_one
 hand-none [] n h = refl
 hand-none (e ∷ t) [] h = refl
-hand-none (e ∷ t) (c ∷ n) h = let q = and-true (free e.taken) (untaken t) h in rw (free-none e.taken q.0, hand-none t n q.1)
+hand-none (e ∷ t) (c ∷ n) h = let q = and_parts (free e.taken) (untaken t) h in rw (free-none e.taken q.0, hand-none t n q.1)
 
 placed-none : (t n : Table) → untaken t ≡ true → placed t n ≡ true
 unfolding untaken placed
 placed-none [] n h = refl
-placed-none (e ∷ t) [] h = let q = and-true (free e.taken) (untaken t) h in rw (q.0, placed-none t [] q.1)
-placed-none (e ∷ t) (c ∷ n) h = let q = and-true (free e.taken) (untaken t) h in rw (q.0, placed-none t n q.1)
+placed-none (e ∷ t) [] h = let q = and_parts (free e.taken) (untaken t) h in rw (q.0, placed-none t [] q.1)
+placed-none (e ∷ t) (c ∷ n) h = let q = and_parts (free e.taken) (untaken t) h in rw (q.0, placed-none t n q.1)
 
 -- only the items before position r are taken
 hand-rest : (r : ℕ) (t n : Table) → untaken (drop r t) ≡ true → hand t n ≡ hand (take r t) n
@@ -109,32 +111,32 @@ placed-rest : (r : ℕ) (t n : Table) → untaken (drop r t) ≡ true → placed
 unfolding placed
 placed-rest zero t n h p = placed-none t n h
 placed-rest (suc r) [] n h p = refl
-placed-rest (suc r) (e ∷ t) [] h p = let q = and-true (free e.taken) (placed (take r t) []) p in rw (q.0, placed-rest r t [] h q.1)
-placed-rest (suc r) (e ∷ t) (c ∷ n) h p = let q = and-true (free e.taken || same e.param.identifier c.param.identifier) (placed (take r t) n) p in rw (q.0, placed-rest r t n h q.1)
+placed-rest (suc r) (e ∷ t) [] h p = let q = and_parts (free e.taken) (placed (take r t) []) p in rw (q.0, placed-rest r t [] h q.1)
+placed-rest (suc r) (e ∷ t) (c ∷ n) h p = let q = and_parts (free e.taken || same e.param.identifier c.param.identifier) (placed (take r t) n) p in rw (q.0, placed-rest r t n h q.1)
 
 -- one position more
 hand-step : (k : ℕ) (t n : Table) {e c : Entry} {m : ℕ} → get_elem? t k ≡ some e → e.taken ≡ some m → get_elem? n k ≡ some c → hand (take (suc k) t) n ≡ set (hand (take k t) n) k (mark_entry m c)
 unfolding hand hand_one
-hand-step k [] n h q g = let z : ◌≡◌ {A = ℕ} 0 1 = cc in absurd (omega arith)
-hand-step k (d ∷ t) [] h q g = let z : ◌≡◌ {A = ℕ} 0 1 = cc in absurd (omega arith)
+hand-step k [] n h q g = cc
+hand-step k (d ∷ t) [] h q g = cc
 hand-step zero (d ∷ t) (b ∷ n) {e} {c} {m} h q g = let x : d ≡ e = cc in let y : b ≡ c = cc in let w : d.taken ≡ some m = ap (λ v. v.taken) x ∙ q in rw (w, y)
 hand-step (suc k) (d ∷ t) (b ∷ n) h q g = rw (hand-step k t n h q g)
 
 placed-step : (k : ℕ) (t n : Table) {e c : Entry} → get_elem? t k ≡ some e → get_elem? n k ≡ some c → same e.param.identifier c.param.identifier ≡ true → placed (take k t) n ≡ true → placed (take (suc k) t) n ≡ true
 unfolding placed
-placed-step k [] n h g q p = let z : ◌≡◌ {A = ℕ} 0 1 = cc in absurd (omega arith)
-placed-step k (d ∷ t) [] h g q p = let z : ◌≡◌ {A = ℕ} 0 1 = cc in absurd (omega arith)
+placed-step k [] n h g q p = cc
+placed-step k (d ∷ t) [] h g q p = cc
 placed-step zero (d ∷ t) (b ∷ n) {e} {c} h g q p =
     let x : d ≡ e = cc in
     let y : b ≡ c = cc in
     let w : same d.param.identifier b.param.identifier ≡ true = ap₂ (λ (v u : Entry). same v.param.identifier u.param.identifier) x y ∙ q in
     rw (w, or-true (free d.taken))
-placed-step (suc k) (d ∷ t) (b ∷ n) h g q p = let r = and-true (free d.taken || same d.param.identifier b.param.identifier) (placed (take k t) n) p in rw (r.0, placed-step k t n h g q r.1)
+placed-step (suc k) (d ∷ t) (b ∷ n) h g q p = let r = and_parts (free d.taken || same d.param.identifier b.param.identifier) (placed (take k t) n) p in rw (r.0, placed-step k t n h g q r.1)
 
 -- an item that is taken and has no fellow
 placed-fails : (k : ℕ) (t n : Table) {e : Entry} {m : ℕ} → get_elem? t k ≡ some e → e.taken ≡ some m → agree_at t n k ≡ false → placed t n ≡ false
 unfolding placed agree_at free
-placed-fails k [] n h q g = let z : ◌≡◌ {A = ℕ} 0 1 = cc in absurd (omega arith)
+placed-fails k [] n h q g = cc
 placed-fails zero (d ∷ t) [] {e} {m} h q g = let x : d ≡ e = cc in rw (ap (λ v. v.taken) x ∙ q)
 placed-fails zero (d ∷ t) (b ∷ n) {e} {m} h q g = let x : d ≡ e = cc in rw (ap (λ v. v.taken) x ∙ q, g)
 placed-fails (suc k) (d ∷ t) [] h q g = rw (placed-fails k t [] h q (none-agrees k t)) (and-false (free d.taken))
@@ -151,14 +153,14 @@ unfolding agree_at
 agree-some k t n {e} h g = go (get_elem? n k) refl (sym (rw (h, agree_at)) ∙ g)
   where
     go : (o : Option Entry) → get_elem? n k ≡ o → elim (get_elem? n k) as (λ o'. Bool) [ none ↦ false | some c ↦ same e.param.identifier c.param.identifier ] ≡ true → (c : Entry) × (get_elem? n k ≡ some c) × (same e.param.identifier c.param.identifier ≡ true)
-    go none q r = let a : false ≡ true = sym (rw q) ∙ r in let z : ◌≡◌ {A = ℕ} 0 1 = cc in absurd (omega arith)
+    go none q r = let a : false ≡ true = sym (rw q) ∙ r in cc
     go (some c) q r = (c, q, sym (rw q) ∙ r)
 
 some-some : {A : Type 0} {a b : A} → some a ≡ some b → a ≡ b
 some-some h = cc
 
 at-below : {A : Type 0} (l : List A) (k : ℕ) {a : A} → get_elem? l k ≡ some a → k < length l
-at-below [] k h = let z : ◌≡◌ {A = ℕ} 0 1 = cc in absurd (omega arith)
+at-below [] k h = cc
 at-below (x ∷ l) zero h = omega arith
 at-below (x ∷ l) (suc k) h = omega (arith, at-below l k h)
 
@@ -268,11 +270,11 @@ module _ {s t : List ℕ} {from to : Path} (v : WellFormed s t from) (w : WellFo
       pub handed-items : SameItems to (handed from to n)
       handed-items = (handing n (omega arith)).items
 
-      pub transfer-handed : (l : Location) → transfer l (table_of s t from) (table_of s t to) ≡ ok (table_of s t (handed from to n))
+      pub transfer-handed : (l : Location) → transfer l (table_of s t from) (table_of s t to) ≡ Ok (table_of s t (handed from to n))
       unfolding is_run table_of transfer
       transfer-handed l =
           let f = table_of s t from in
           let top : run f ≡ true = run_is s t from.places from.taken from.count 32 v.within (omega (arith, v.full, v.few)) v.few ∙ v.run in
           let rest : untaken (drop n f) ≡ true = ap (λ m. untaken (drop m f)) all ∙ run_past in
           let both : (placed f (table_of s t to) && run f) ≡ true = rw (fits, top) in
-          rw (both, transfer) (ap ok (hand-rest n f (table_of s t to) rest ∙ sym (handing n (omega arith)).table))
+          rw (both, transfer) (ap Ok (hand-rest n f (table_of s t to) rest ∙ sym (handing n (omega arith)).table))

@@ -9,84 +9,69 @@ ghost use Rattle.taken.specs.Taken.{first_free};
 ghost use Rattle.paths.specs.Path.{table_of, WellFormed, Walked};
 ghost use Rattle.transfer.specs.Handed.{handed};
 
-use ast::{ErrorKind, Location};
+use ast::{CompileError, ErrorKind, Location};
 use names::{item_at, same_name};
-use paths::{NamePlace, Path, Used, pass, refuse};
-use taken::{first_free, is_top_run, with_bit};
+use paths::{NamePlace, Path};
+use rows::Rows;
+use taken::{first_free, is_top_run};
 
 // Whether the items of two places have the same name.
-fn same_item(listing: &[u8], table: &[u32], p: NamePlace, q: NamePlace) -> bool
-    requires { NamedRow listing.now table.now p.row × NamedRow listing.now table.now q.row }
-    ensures { result ≡ same (item_in listing.now table.now p.row).identifier (item_in listing.now table.now q.row).identifier }
+fn same_item(rows: &Rows<'_>, p: NamePlace, q: NamePlace) -> bool
+    requires { NamedRow rows.now.listing.now rows.now.table.now p.row × NamedRow rows.now.listing.now rows.now.table.now q.row }
+    ensures { result ≡ same (item_in rows.now.listing.now rows.now.table.now p.row).identifier (item_in rows.now.listing.now rows.now.table.now q.row).identifier }
 {
-    let a = item_at(table, p.row as usize);
-    let b = item_at(table, q.row as usize);
-    let x = a.name;
-    let y = b.name;
-    same_name(listing, x, y)
+    let a = item_at(rows.table, p.row as usize);
+    let b = item_at(rows.table, q.row as usize);
+    same_name(a.name.of(rows.listing), b.name.of(rows.listing))
 }
 
 // Whether what is taken in `from`, its first `run` items, stands in `to` at the same positions by the same names.
-fn shares_prefix(listing: &[u8], table: &[u32], run: u32, from: Path, to: Path) -> bool
-    requires { (run ≡ first_free from.taken) × WellFormed listing.now table.now from × WellFormed listing.now table.now to }
-    ensures { result ≡ placed (table_of listing.now table.now from) (table_of listing.now table.now to) }
+#[tactic(auto, unfolding(rules::specs::Transfer::placed))]
+fn shares_prefix(rows: &Rows<'_>, run: u32, from: Path, to: Path) -> bool
+    requires { (run ≡ first_free from.taken) × WellFormed rows.now.listing.now rows.now.table.now from × WellFormed rows.now.listing.now rows.now.table.now to }
+    ensures { result ≡ placed (table_of rows.now.listing.now rows.now.table.now from) (table_of rows.now.listing.now rows.now.table.now to) }
 {
     if to.count < run {
         return false;
     }
-    let mut k: u32 = 0;
-    while k < run {
-        let at = k as usize;
-        let p = from.places[at];
-        let q = to.places[at];
-        if !same_item(listing, table, p, q) {
+    for k in 0..run as usize {
+        if !same_item(rows, from.places[k], to.places[k]) {
             return false;
         }
-        k += 1;
     }
     true
 }
 
 // The first `run` items of `to` taken by the lines that took those of `from`.
+#[tactic(auto, unfolding(crate::specs::Handed::handed))]
 fn hand_over(run: u32, from: Path, to: Path) -> Path
     requires { run ≤ 32 }
     ensures { result ≡ handed from to run }
 {
     let mut out = to;
-    let mut k: u32 = 0;
-    while k < run {
-        let at = k as usize;
-        let p = from.places[at];
-        let q = out.places[at];
-        out.places[at] = NamePlace {
-            row: q.row,
-            line: p.line,
-        };
-        out.taken = with_bit(out.taken, k);
-        k += 1;
+    for k in 0..run {
+        out.mark(k, from.places[k as usize].line);
     }
     out
 }
 
 // What is taken in `from` is taken in `to` by the same lines; 20 at `loc` unless that is a run from position 0 of items that `to` has at the same
-// positions. The row of a pass is 0.
+// positions.
 pub fn transfer_prefix_consumption(
-    listing: &[u8],
-    table: &[u32],
+    rows: &Rows<'_>,
     loc: Location,
     from: Path,
     to: Path,
-) -> Used
-    requires { WellFormed listing.now table.now from × WellFormed listing.now table.now to }
-    ensures { Walked listing.now table.now to (transfer loc (table_of listing.now table.now from) (table_of listing.now table.now to)) 0 result }
+) -> Result<Path, CompileError>
+    requires { WellFormed rows.now.listing.now rows.now.table.now from × WellFormed rows.now.listing.now rows.now.table.now to }
+    ensures { Walked rows.now.listing.now rows.now.table.now to (transfer loc (table_of rows.now.listing.now rows.now.table.now from) (table_of rows.now.listing.now rows.now.table.now to)) result }
 {
-    let taken = from.taken;
-    if !is_top_run(taken) {
-        return refuse(to, ErrorKind::DeclarationPathMismatch, loc);
+    if !is_top_run(from.taken) {
+        return Err(CompileError::new(ErrorKind::DeclarationPathMismatch, loc));
     }
-    let run = first_free(taken);
-    if !shares_prefix(listing, table, run, from, to) {
-        return refuse(to, ErrorKind::DeclarationPathMismatch, loc);
+    let run = first_free(from.taken);
+    if !shares_prefix(rows, run, from, to) {
+        return Err(CompileError::new(ErrorKind::DeclarationPathMismatch, loc));
     }
-    pass(hand_over(run, from, to), 0)
+    Ok(hand_over(run, from, to))
 }

@@ -1,5 +1,5 @@
 -- A turn on the items that rows declare: the three operations in one.
-use Rattle.std.specs.Prelude.{ℕ, suc, Bool, true, false, List, ltb, ◌≡◌}
+use Rattle.std.specs.Prelude.{ℕ, suc, Bool, true, false, List, ltb, ◌≡◌, Ok, Err}
 use Rattle.std.proofs.Math.Option.{Option, some, none}
 use Rattle.ast.specs.Tree.{Name, StackParam}
 use Rattle.rows.specs.Rows.{line_in}
@@ -9,8 +9,7 @@ use Rattle.names.specs.declared.Item.{Item}
 use Rattle.declarations.specs.declared.Declared.{Declared}
 use Rattle.declarations.specs.Items.{ContractAt}
 use Rattle.declarations.specs.Noted.{declared_in, item_at}
-use Rattle.verdicts.specs.declared.Verdict.{Verdict}
-use Rattle.verdicts.specs.declared.Verdict.TheVariants.{Accepted, Refused as NotAccepted}
+use Rattle.rules.specs.Result.{Checked, both}
 use Rattle.turns.specs.declared.Rehearsal.{Rehearsal}
 use Rattle.turns.specs.declared.Rehearsed.{Rehearsed}
 use Rattle.turns.specs.declared.Rehearsed.TheVariants.{Due, Ended, Refused}
@@ -47,22 +46,17 @@ turn_in s ps r (Lay t) x = lay_in s ps r (record { name = x; ty = t })
 turn_in s ps r TakeBack x = due_in ps (onward r.path (lowered (beginning s) r.due))
 
 -- whether a path is one of so many: 31 if it is not
-unfoldable pub path_verdict : ℕ → ℕ → Verdict
-path_verdict count path = elim (ltb path count) [ true ↦ Accepted | false ↦ NotAccepted no_such_path ]
-
--- the first refusal of two tests
-unfoldable pub first : Verdict → Verdict → Verdict
-first (NotAccepted x) v = NotAccepted x
-first Accepted v = v
+unfoldable pub check_path : ℕ → ℕ → Checked
+check_path count path = elim (ltb path count) [ true ↦ Ok tt | false ↦ Err no_such_path ]
 
 -- a turn after its tests
-unfoldable pub turn_by : Verdict → Rehearsed → Rehearsed
-turn_by (NotAccepted x) a = Refused x
-turn_by Accepted a = a
+unfoldable pub turn_by : Checked → Rehearsed → Rehearsed
+turn_by (Err x) a = Refused x
+turn_by (Ok _) a = a
 
--- Check's answer, then 31
-abbrev pub tests : Verdict → ℕ → Rehearsal → Verdict
-tests v count r = first v (path_verdict count r.path)
+-- Check's answer, then 31: the first refusal
+abbrev pub tests : Checked → ℕ → Rehearsal → Checked
+tests c count r = both c (check_path count r.path)
 
 -- a contract stands in rows, and d is what they say of its declarations
 pub record RowsAt (s t : List ℕ) (d : Declared) : Type 0 where

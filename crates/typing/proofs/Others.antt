@@ -4,14 +4,12 @@ use mathlib.Core.List.{List, [], ◌∷◌}
 use mathlib.Core.Path.{◌≡◌, refl, ap, ◌∙◌}
 use Rattle.ast.specs.declared.Location.{Location}
 use Rattle.ast.specs.declared.Target.{Target}
-use Rattle.ast.specs.declared.Checked.{Checked}
 use Rattle.ast.specs.declared.ErrorKind.TheVariants.{InvalidOperation}
 use Rattle.ast.specs.Tree.{StackParam, Expression, loc, fault}
-use Rattle.nodes.specs.declared.Answer.{Answer}
-use Rattle.nodes.specs.declared.Answer.TheVariants.{Fault}
+use Rattle.std.specs.Prelude.{Err}
 use Rattle.nodes.specs.Stands.{walked}
 use Rattle.nodes.proofs.Others.{Each}
-use Rattle.rules.specs.Result.{refused}
+use Rattle.rules.specs.Result.{Result, Checked, refused}
 use Rattle.rules.specs.Types.{string, number, truth, hashed, general}
 
 abbrev pub Refuses : (Expression → Target → List StackParam → Checked) → Expression → Type 0
@@ -21,9 +19,8 @@ abbrev pub ByGeneral : Expression → Type 0
 ByGeneral e = (g : Target) (ps : List StackParam) → general e g ps ≡ hashed e g ps
 
 -- 17 at the node
-pub refused-here : (e : Expression) {l : Location} {r : Answer} {o : Checked} (j : ℕ) → l ≡ loc e → r ≡ Fault (fault InvalidOperation l) → o ≡ refused InvalidOperation (loc e) → r ≡ walked o j
-unfolding walked
-refused-here e j p q h = rw h (q ∙ ap (λ l. Fault (fault InvalidOperation l)) p)
+pub refused-here : (e : Expression) {l : Location} {r : Result ℕ} {o : Checked} (j : ℕ) → l ≡ loc e → r ≡ Err (fault InvalidOperation l) → o ≡ refused InvalidOperation (loc e) → r ≡ walked o j
+refused-here e j p q h = rw h (q ∙ ap (λ l. Err (fault InvalidOperation l)) p)
 
 abbrev pub not-strings : List ℕ
 not-strings = 1 ∷ 2 ∷ 4 ∷ 5 ∷ 6 ∷ 7 ∷ 9 ∷ 10 ∷ []

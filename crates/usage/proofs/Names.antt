@@ -3,33 +3,28 @@ use Prim.Native.Nat.{ℕ, ◌<◌}
 use native.Mathlib.Omega.{arith}
 use mathlib.Core.Bool.{Bool, true, false, ◌||◌, or_assoc}
 use mathlib.Core.List.{List, [], ◌∷◌, ◌++◌}
-use mathlib.Core.Path.{◌≡◌, refl, sym, ap, ◌∙◌}
-use lib.Dec.{eqb}
-use borrow.Author.Tests.{eqb-true, eqb-false}
+use mathlib.Core.Path.{◌≡◌, refl, ap, ◌∙◌}
+use Rattle.std.specs.Prelude.{Ok}
 use Rattle.ast.specs.Tree.{Expression, Factor, Factors, Variable, NumberLiteral, BooleanLiteral, StringLiteral, LogicalExpression, CompareExpression, UnaryMathExpression, BinaryMathExpression, UnaryCryptoExpression, CheckSigExpression, ByteExpression, SingleSigFactor, MultiSigFactor, []ᶠ, ◌∷ᶠ◌}
-use Rattle.rules.specs.Result.{Result, ok, ◌>>=◌}
+use Rattle.rules.specs.Result.{Result, ◌>>=◌}
 use Rattle.rules.specs.Table.{Table}
 use Rattle.rules.specs.Usage.{usage, usage_factor, usage_inner, usage_factors}
 use Rattle.rules.proofs.Basics.{true≢false'}
 use Rattle.listing.specs.declared.Line.{Line}
-use Rattle.rows.specs.Rows.{row_in, kept, kept_as, line_of, line_in}
-use Rattle.rows.specs.declared.Words.{Words}
-use Rattle.rows.proofs.Forms.{each-form}
 use Rattle.reader.specs.Spells.{SpellsExpression, SpellsFactor}
-use Rattle.nodes.proofs.Laws.{line-by}
 use Rattle.nodes.specs.Nodes.{Node, expression, factor, SpellsNodes}
 use Rattle.nodes.proofs.Nodes.{factor_nodes, children, opened}
 use Rattle.usage.specs.Names.{has_names, has_names_factor, has_names_factors, is_name}
 
 -- two rules in turn that take nothing where there are no names
-idle-two : (x y : Bool) (r : Result Table) (f : Table → Result Table) (t : Table) → (x ≡ false → r ≡ ok t) → (y ≡ false → f t ≡ ok t) → (x || y) ≡ false → (r >>= λ t'. f t') ≡ ok t
+idle-two : (x y : Bool) (r : Result Table) (f : Table → Result Table) (t : Table) → (x ≡ false → r ≡ Ok t) → (y ≡ false → f t ≡ Ok t) → (x || y) ≡ false → (r >>= λ t'. f t') ≡ Ok t
 idle-two true y r f t p q h = absurd (true≢false' refl h)
 idle-two false y r f t p q h = rw (p refl) (q h)
 
 mutual
   unfolding has_names usage
 
-  pub nameless : (e : Expression) → has_names e ≡ false → (t : Table) → usage e t ≡ ok t
+  pub nameless : (e : Expression) → has_names e ≡ false → (t : Table) → usage e t ≡ Ok t
   nameless (Variable l n x) h t = absurd (true≢false' refl h)
   nameless (NumberLiteral l v) h t = refl
   nameless (BooleanLiteral l b) h t = refl
@@ -42,30 +37,17 @@ mutual
   nameless (CheckSigExpression l f) h t = nameless-factor f h t
   nameless (ByteExpression l a) h t = nameless a h t
 
-  nameless-factor : (f : Factor) → has_names_factor f ≡ false → (t : Table) → usage_factor f t ≡ ok t
+  nameless-factor : (f : Factor) → has_names_factor f ≡ false → (t : Table) → usage_factor f t ≡ Ok t
   nameless-factor (SingleSigFactor l a b) h t = idle-two (has_names a) (has_names b) (usage a t) (usage b) t (λ n. nameless a n t) (λ n. nameless b n t) h
   nameless-factor (MultiSigFactor l m fs) h t = nameless-factors fs h t
 
-  nameless-inner : (f : Factor) → has_names_factor f ≡ false → (t : Table) → usage_inner f t ≡ ok t
+  nameless-inner : (f : Factor) → has_names_factor f ≡ false → (t : Table) → usage_inner f t ≡ Ok t
   nameless-inner (SingleSigFactor l a b) h t = idle-two (has_names a) (has_names b) (usage a t) (usage b) t (λ n. nameless a n t) (λ n. nameless b n t) h
   nameless-inner (MultiSigFactor l m fs) h t = refl
 
-  nameless-factors : (fs : Factors) → has_names_factors fs ≡ false → (t : Table) → usage_factors fs t ≡ ok t
+  nameless-factors : (fs : Factors) → has_names_factors fs ≡ false → (t : Table) → usage_factors fs t ≡ Ok t
   nameless-factors []ᶠ h t = refl
   nameless-factors (f ∷ᶠ fs) h t = idle-two (has_names_factor f) (has_names_factors fs) (usage_inner f t) (usage_factors fs) t (λ n. nameless-inner f n t) (λ n. nameless-factors fs n t) h
-
--- whether a row is a variable's line, from its letter
-pub name_by : (t : List ℕ) (i : ℕ) {r : Words} → r ≡ row_in t i → eqb r.kind 118 ≡ is_name (line_in t i)
-unfolding line_in kept_as
-name_by t i {r} e = go (eqb r.kind 118) refl
-  where
-    go : (b : Bool) → eqb r.kind 118 ≡ b → b ≡ is_name (line_in t i)
-    go true q = ap is_name (sym (line-by t i 118 {x = kept_as kept 118 r} e (eqb-true r.kind 118 q) refl))
-    go false q =
-        each-form
-        (λ l. false ≡ is_name l)
-        r
-        (λ k. refl, (λ k. refl, (λ k. refl, (λ k. refl, (λ k. refl, (λ k. refl, (λ k. refl, (λ k. refl, (λ k. absurd (eqb-false r.kind 118 q k), (λ k. refl, (λ k. refl, (λ k. refl, (λ k. refl, (λ k. refl, (λ k. refl, (λ k. refl, (λ k. refl, (λ k. refl, (λ k. refl, (λ k. refl, (λ k. refl, refl))))))))))))))))))))) ∙ ap (λ w. is_name (line_of w)) e
 
 -- of nodes, one after the other
 unfoldable pub any_names : List Node → Bool

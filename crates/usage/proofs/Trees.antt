@@ -1,5 +1,5 @@
 -- The names of a tree from its first line: what stands below, and the rule for it.
-use Prim.Native.Nat.{ℕ, zero, suc, ◌+◌, ◌-◌, ◌≤◌, ◌<◌}
+use Prim.Native.Nat.{ℕ, suc, ◌+◌, ◌-◌, ◌≤◌, ◌<◌}
 use native.Mathlib.Nat.{zero-add}
 use native.Mathlib.Numerals.{add-one}
 use native.Mathlib.Omega.{arith}
@@ -8,6 +8,8 @@ use mathlib.Core.List.{List, [], ◌∷◌, ◌++◌}
 use mathlib.Core.Path.{◌≡◌, refl, sym, ap, ◌∙◌, subst}
 use denote.Enum.Declared.{tag_of}
 use types.Run.{OneOf, miss}
+use Rattle.std.specs.Prelude.{Ok, Err, IsErrAnd}
+use Rattle.std.proofs.lemmas.Result.{err_from_is_err_and}
 use Rattle.ast.specs.declared.Location.{Location}
 use Rattle.ast.specs.declared.CompileError.{CompileError}
 use Rattle.ast.specs.Tree.{Expression, Factor, Factors}
@@ -24,26 +26,26 @@ use Rattle.reader.specs.Ceilings.{max_lines}
 use Rattle.reader.specs.Spells.{SpellsExpression, SpellsFactor, SpellsFactors}
 use Rattle.reader.proofs.Inversion.{ExpressionFrom, FactorFrom}
 use Rattle.reader.proofs.Agree.{expression-on, factor-on, factors-on}
-use Rattle.rules.specs.Result.{Result, ok, err, ◌>>=◌}
+use Rattle.rules.specs.Result.{Result, ◌>>=◌}
 use Rattle.rules.specs.Table.{Table}
 use Rattle.rules.specs.Usage.{take, usage, usage_factor, usage_inner, usage_factors}
-use Rattle.nodes.specs.declared.Answer.TheVariants.{Pass, Fault}
 use Rattle.nodes.specs.Stands.{Stands}
 use Rattle.names.specs.Items.{Inside}
 use Rattle.nodes.proofs.Laws.{expression-is, factor-is, row-part, below}
 use Rattle.usage.specs.declared.Parts.{Parts}
 use Rattle.usage.specs.declared.Parts.TheVariants.{Named, Expressions, Factors as Signed}
 use Rattle.paths.specs.declared.Path.{Path}
-use Rattle.paths.specs.declared.Used.{Used}
+use Rattle.usage.specs.declared.Used.{Used}
 use Rattle.paths.specs.Path.{table_of, WellFormed, SameItems, Walked}
 use Rattle.usage.specs.Walk.{SpellsExpressions, usage_all, FactorParts, PartsAre, Walks}
-use Rattle.paths.proofs.Walks.{same-items, items-then, walk-pass, walked-ok, walked-err, walk_is, walk-stops}
+use Rattle.paths.proofs.Walks.{same-items, items-then}
+use Rattle.usage.proofs.Walks.{at_next, to-fault, to-pass, to-next, to-ok, to-err, to-onward, to-is}
 
 -- ---- some expressions in turn
 
-bind_ok : {A : Type 0} (m : Result A) → m ≡ (m >>= λ a. ok a)
-bind_ok (ok a) = refl
-bind_ok (err x) = refl
+bind_ok : {A : Type 0} (m : Result A) → m ≡ (m >>= λ a. Ok a)
+bind_ok (Ok a) = refl
+bind_ok (Err x) = refl
 
 -- one, and two
 pub one-all : (a : Expression) (t : Table) → usage a t ≡ usage_all (a ∷ []) t
@@ -54,13 +56,13 @@ two-all : (a b : Expression) (t : Table) → (usage a t >>= λ t'. usage b t') �
 unfolding usage_all
 two-all a b t = go (usage a t)
   where
-    go : (m : Result Table) → (m >>= λ t'. usage b t') ≡ (m >>= λ t'. usage b t' >>= λ t''. ok t'')
-    go (ok u) = bind_ok (usage b u)
-    go (err x) = refl
+    go : (m : Result Table) → (m >>= λ t'. usage b t') ≡ (m >>= λ t'. usage b t' >>= λ t''. Ok t'')
+    go (Ok u) = bind_ok (usage b u)
+    go (Err x) = refl
 
 bind-bind : {A B C : Type 0} (m : Result A) (f : A → Result B) (g : B → Result C) (h : A → Result C) → ((a : A) → (f a >>= λ b. g b) ≡ h a) → ((m >>= λ a. f a) >>= λ b. g b) ≡ (m >>= λ a. h a)
-bind-bind (ok a) f g h e = e a
-bind-bind (err x) f g h e = refl
+bind-bind (Ok a) f g h e = e a
+bind-bind (Err x) f g h e = refl
 
 all_append : (xs ys : List Expression) (t : Table) → (usage_all xs t >>= λ t'. usage_all ys t') ≡ usage_all (xs ++ ys) t
 unfolding usage_all
@@ -99,7 +101,7 @@ module _ (L : ℕ → Line) (s : List ℕ) where
   LineParts (ExpressionLine.ByteExpression w) i n e j = PartsAre L s i e j (Expressions 1 n)
   LineParts (ExpressionLine.CheckSigExpression w) i n e j = (f : Factor) × SpellsFactor L s n f j × ((t : Table) → usage e t ≡ usage_factor f t)
 
-  leaf : (i j : ℕ) (e y : Expression) → ((t : Table) → usage y t ≡ ok t) → e ≡ y → j ≡ suc i → PartsAre L s i e j (Expressions 0 (suc i))
+  leaf : (i j : ℕ) (e y : Expression) → ((t : Table) → usage y t ≡ Ok t) → e ≡ y → j ≡ suc i → PartsAre L s i e j (Expressions 0 (suc i))
   unfolding usage_all
   leaf i j e y h p q = (omega arith, ([], rw q SpellsExpressions.nil, λ t. ap (λ z. usage z t) p ∙ h t))
 
@@ -149,7 +151,7 @@ module _ (L : ℕ → Line) (s : List ℕ) where
   -- the same for a factor, by itself and as one of a multi-signature
   abbrev pub FactorBelow : FactorLine → ℕ → Factor → ℕ → Type 0
   FactorBelow (FactorLine.SingleSigFactor w) n f j = (es : List Expression) × SpellsExpressions L s 2 n es j × ((t : Table) → usage_factor f t ≡ usage_all es t) × ((t : Table) → usage_inner f t ≡ usage_all es t)
-  FactorBelow (FactorLine.MultiSigFactor w m k) n f j = (fs : Factors) × SpellsFactors L s k n fs j × ((t : Table) → usage_factor f t ≡ usage_factors fs t) × ((t : Table) → usage_inner f t ≡ ok t)
+  FactorBelow (FactorLine.MultiSigFactor w m k) n f j = (fs : Factors) × SpellsFactors L s k n fs j × ((t : Table) → usage_factor f t ≡ usage_factors fs t) × ((t : Table) → usage_inner f t ≡ Ok t)
 
   factor-from : (i j : ℕ) (f : Factor) (x : FactorLine) → FactorFrom L s x i f j → FactorBelow x (suc i) f j
   unfolding usage_factor usage_inner usage
@@ -163,7 +165,7 @@ module _ (L : ℕ → Line) (s : List ℕ) where
 
 pub record Series {A B : Type 0} (R : ℕ → ℕ → A → ℕ → Type 0) (Q : ℕ → B → ℕ → Type 0) (all : A → Table → Result Table) (one : B → Table → Result Table) : Type 0 where
   pub first : (n i j : ℕ) (x : A) → R n i x j → 0 < n → (b : B) × (y : A) × (k : ℕ) × Q i b k × R (n - 1) k y j × ((t : Table) → all x t ≡ (one b t >>= λ t'. all y t'))
-  pub none : (n i j : ℕ) (x : A) → R n i x j → n ≤ 0 → (i ≡ j) × ((t : Table) → all x t ≡ ok t)
+  pub none : (n i j : ℕ) (x : A) → R n i x j → n ≤ 0 → (i ≡ j) × ((t : Table) → all x t ≡ Ok t)
   pub on : (n i j : ℕ) (x : A) → R n i x j → i ≤ j
   pub moves : (i j : ℕ) (b : B) → Q i b j → i < j
 
@@ -175,7 +177,7 @@ factors-series L s = record { first = first; none = none; on = λ n i j x sp. fa
     first n i j x SpellsFactors.nil h = absurd (omega arith)
     first n i j x (SpellsFactors.cons {j = k} {n = m} {f = f} {fs = gs} u v) h = let e : suc m - 1 ≡ m = omega arith in (f, gs, k, u, rw e v, λ t. refl)
 
-    none : (n i j : ℕ) (x : Factors) → SpellsFactors L s n i x j → n ≤ 0 → (i ≡ j) × ((t : Table) → usage_factors x t ≡ ok t)
+    none : (n i j : ℕ) (x : Factors) → SpellsFactors L s n i x j → n ≤ 0 → (i ≡ j) × ((t : Table) → usage_factors x t ≡ Ok t)
     none n i j x SpellsFactors.nil h = (refl, λ t. refl)
     none n i j x (SpellsFactors.cons u v) h = absurd (omega arith)
 
@@ -187,78 +189,81 @@ expressions-series L s = record { first = first; none = none; on = λ n i j x sp
     first n i j x SpellsExpressions.nil h = absurd (omega arith)
     first n i j x (SpellsExpressions.cons {j = k} {n = m} {e = f} {es = gs} u v) h = let e : suc m - 1 ≡ m = omega arith in (f, gs, k, u, rw e v, λ t. refl)
 
-    none : (n i j : ℕ) (x : List Expression) → SpellsExpressions L s n i x j → n ≤ 0 → (i ≡ j) × ((t : Table) → usage_all x t ≡ ok t)
+    none : (n i j : ℕ) (x : List Expression) → SpellsExpressions L s n i x j → n ≤ 0 → (i ≡ j) × ((t : Table) → usage_all x t ≡ Ok t)
     none n i j x SpellsExpressions.nil h = (refl, λ t. refl)
     none n i j x (SpellsExpressions.cons u v) h = absurd (omega arith)
 
--- the loop over n trees from row i and the path p: `left` are to come from row `next` on, and q is the path now
-pub record Rest {A : Type 0} (R : ℕ → ℕ → A → ℕ → Type 0) (all : A → Table → Result Table) (s t : List ℕ) (n i : ℕ) (p : Path) (left next : ℕ) (q : Path) : Type 0 where
-  pub sound : WellFormed s t q
-  pub items : SameItems p q
-  pub stands : Stands (R left) s t next
-  pub on : i ≤ next
-  pub same : (x : A) (j : ℕ) → R n i x j → (y : A) × R left next y j × (all x (table_of s t p) ≡ all y (table_of s t q))
+-- the loop over n trees from row i and the path p: `left` are to come, and u is the row that they begin at and the path now
+pub record Rest {A : Type 0} (R : ℕ → ℕ → A → ℕ → Type 0) (all : A → Table → Result Table) (s t : List ℕ) (n i : ℕ) (p : Path) (left : ℕ) (u : Used) : Type 0 where
+  pub sound : WellFormed s t u.path
+  pub items : SameItems p u.path
+  pub stands : Stands (R left) s t u.next
+  pub on : i ≤ u.next
+  pub same : (x : A) (j : ℕ) → R n i x j → (y : A) × R left u.next y j × (all x (table_of s t p) ≡ all y (table_of s t u.path))
 
-pub rest_all : {A : Type 0} {R : ℕ → ℕ → A → ℕ → Type 0} {all : A → Table → Result Table} {s t : List ℕ} {n i : ℕ} {p : Path} → WellFormed s t p → Stands (R n) s t i → Rest R all s t n i p n i p
+pub rest_all : {A : Type 0} {R : ℕ → ℕ → A → ℕ → Type 0} {all : A → Table → Result Table} {s t : List ℕ} {n i : ℕ} {p : Path} → WellFormed s t p → Stands (R n) s t i → Rest R all s t n i p n (record { path = p; next = i })
 rest_all {p = p} sound st = record { sound = sound; items = same-items p; stands = st; on = omega arith; same = λ x j sp. (x, sp, refl) }
 
-module _ {A B : Type 0} {R : ℕ → ℕ → A → ℕ → Type 0} {Q : ℕ → B → ℕ → Type 0} {all : A → Table → Result Table} {one : B → Table → Result Table} (S : Series R Q all one) {s t : List ℕ} {n i : ℕ} {p : Path} {left next : ℕ} {q : Path} (r : Rest R all s t n i p left next q) where
-  pub rest-done : left ≤ 0 → {u : Used} → u ≡ record { path = q; answer = Pass next } → Walks (R n) all s t i p u
-  rest-done h e x j sp =
+module _ {A B : Type 0} {R : ℕ → ℕ → A → ℕ → Type 0} {Q : ℕ → B → ℕ → Type 0} {all : A → Table → Result Table} {one : B → Table → Result Table} (S : Series R Q all one) {s t : List ℕ} {n i : ℕ} {p : Path} {left : ℕ} {u : Used} (r : Rest R all s t n i p left u) where
+  pub rest-done : left ≤ 0 → Walks (R n) all s t i p (Ok u)
+  rest-done h x j sp =
       let g = r.same x j sp in
-      let z = S.none left next j g.0 g.1 h in
-      walk-pass e (g.2 ∙ z.1 (table_of s t q)) z.0 r.sound r.items
+      let z = S.none left u.next j g.0 g.1 h in
+      to-pass refl (g.2 ∙ z.1 (table_of s t u.path)) z.0 r.sound r.items
 
   module _ (h : 0 < left) where
     -- the tree at hand stands
-    pub rest-first : Stands Q s t next
+    pub rest-first : Stands Q s t u.next
     rest-first =
         let st = r.stands in
-        let g = S.first left next st.next st.tree st.spells h in
+        let g = S.first left u.next st.next st.tree st.spells h in
         below Q st g.3 (S.on (left - 1) g.2 st.next g.1 g.4)
 
-    module _ {u : Used} (walk : Walks Q one s t next q u) where
-      pub rest-fault : {x : CompileError} → u.answer ≡ Fault x → Walks (R n) all s t i p u
-      rest-fault e x j sp =
-          let g = r.same x j sp in
-          let f = S.first left next j g.0 g.1 h in
-          let w = walk f.0 f.2 f.3 in
-          walk-stops w e (g.2 ∙ f.5 (table_of s t q) ∙ rw (walked-err w e))
+    module _ {a : Result Used} (walk : Walks Q one s t u.next u.path a) where
+      -- its fault is the answer
+      pub rest-fault : {b : Result Used} {x : CompileError} → a ≡ Err x → IsErrAnd b (λ y. y ≡ x) → Walks (R n) all s t i p b
+      rest-fault {b} {x} e d o j sp =
+          let g = r.same o j sp in
+          let f = S.first left u.next j g.0 g.1 h in
+          let (y, k, l) = err_from_is_err_and b d in
+          to-fault (k ∙ ap Err l) (g.2 ∙ f.5 (table_of s t u.path) ∙ rw (to-err (walk f.0 f.2 f.3) e))
 
-      pub rest_more : {m : ℕ} → u.answer ≡ Pass m → Rest R all s t n i p (left - 1) m u.path
-      rest_more {m} e =
+      pub rest_more : {v : Used} → a ≡ Ok v → Rest R all s t n i p (left - 1) v
+      rest_more {v} e =
           let st = r.stands in
-          let g = S.first left next st.next st.tree st.spells h in
-          let w = (walk g.0 g.2 g.3).onward m e in
+          let g = S.first left u.next st.next st.tree st.spells h in
+          let w = walk g.0 g.2 g.3 in
+          let o = to-onward w e in
+          let next : v.next ≡ g.2 = w.next v e in
           record {
-            sound = w.sound;
-            items = items-then r.items w.items;
-            stands = subst (λ k. Stands (R (left - 1)) s t k) (sym w.next) (below (R (left - 1)) st g.4 (omega arith));
-            on = omega (arith, r.on, S.moves next g.2 g.0 g.3, w.next);
+            sound = o.sound;
+            items = items-then r.items o.items;
+            stands = subst (λ k. Stands (R (left - 1)) s t k) (sym next) (below (R (left - 1)) st g.4 (omega arith));
+            on = omega (arith, r.on, S.moves u.next g.2 g.0 g.3);
             same = λ x j sp.
-                let a = r.same x j sp in
-                let f = S.first left next j a.0 a.1 h in
-                let v = walk f.0 f.2 f.3 in
-                (f.1, subst (λ k. R (left - 1) k f.1 j) (sym (v.onward m e).next) f.4, a.2 ∙ f.5 (table_of s t q) ∙ rw (walked-ok v e));
+                let b = r.same x j sp in
+                let f = S.first left u.next j b.0 b.1 h in
+                let y = walk f.0 f.2 f.3 in
+                (f.1, subst (λ k. R (left - 1) k f.1 j) (sym (y.next v e)) f.4, b.2 ∙ f.5 (table_of s t u.path) ∙ rw (to-ok y e));
           }
 
       -- the walk goes on
-      pub rest-on : {m : ℕ} → u.answer ≡ Pass m → next < m
-      rest-on {m} e =
+      pub rest-on : {v : Used} → a ≡ Ok v → u.next < v.next
+      rest-on {v} e =
           let st = r.stands in
-          let g = S.first left next st.next st.tree st.spells h in
-          omega (arith, S.moves next g.2 g.0 g.3, ((walk g.0 g.2 g.3).onward m e).next)
+          let g = S.first left u.next st.next st.tree st.spells h in
+          omega (arith, S.moves u.next g.2 g.0 g.3, (walk g.0 g.2 g.3).next v e)
 
 -- ---- the walks over what stands at a row
 
 module _ (s t : List ℕ) (i : ℕ) where
   -- a variable
   module _ (w : Location) (x : Place) (h : line_in t i ≡ Line.Expression (ExpressionLine.Variable w x)) where
-    pub named-walk : {q : Path} {u : Used} → Walked s t q (take false w (suc i) (part s x) (table_of s t q)) (suc i) u → Walks (SpellsExpression (line_in t) s) usage s t i q u
+    pub named-walk : {q : Path} {r : Result Path} → Walked s t q (take false w (suc i) (part s x) (table_of s t q)) r → Walks (SpellsExpression (line_in t) s) usage s t i q (at_next (i + 1) r)
     unfolding usage
-    named-walk {q} {u} walk e j sp =
+    named-walk {q} {r} walk e j sp =
         let (p, k) = expression-is sp h in
-        subst (λ n. Walked s t q (usage e (table_of s t q)) n u) (sym k) (walk_is walk (ap (λ z. usage z (table_of s t q)) p))
+        to-is (to-next r walk (add-one i ∙ sym k)) (ap (λ z. usage z (table_of s t q)) p)
 
     pub named-inside : Stands (SpellsExpression (line_in t) s) s t i → Inside s x
     unfolding part_of
@@ -266,24 +271,24 @@ module _ (s t : List ℕ) (i : ℕ) where
 
   -- the factors of a multi-signature
   module _ (n k : ℕ) (parts : (e : Expression) (j : ℕ) → SpellsExpression (line_in t) s i e j → PartsAre (line_in t) s i e j (Signed n k)) where
-    pub signed-walk : {q : Path} {u : Used} → Walks (SpellsFactors (line_in t) s n) usage_factors s t k q u → Walks (SpellsExpression (line_in t) s) usage s t i q u
-    signed-walk {q} walk e j sp = let b = parts e j sp in walk_is (walk b.1.0 j b.1.1) (b.1.2 (table_of s t q))
+    pub signed-walk : {q : Path} {r : Result Used} → Walks (SpellsFactors (line_in t) s n) usage_factors s t k q r → Walks (SpellsExpression (line_in t) s) usage s t i q r
+    signed-walk {q} walk e j sp = let b = parts e j sp in to-is (walk b.1.0 j b.1.1) (b.1.2 (table_of s t q))
 
     pub signed-stands : Stands (SpellsExpression (line_in t) s) s t i → (i < k) × Stands (SpellsFactors (line_in t) s n) s t k
     signed-stands st = let b = parts st.tree st.next st.spells in (b.0, below (SpellsFactors (line_in t) s n) st b.1.1 (omega arith))
 
 -- the loop over expressions, where the one at hand has others below it: they come before those that are to come
-module _ {s t : List ℕ} {n i : ℕ} {p : Path} {left next : ℕ} {q : Path} (r : Rest (SpellsExpressions (line_in t) s) usage_all s t n i p left next q) where
+module _ {s t : List ℕ} {n i : ℕ} {p : Path} {left : ℕ} {u : Used} (r : Rest (SpellsExpressions (line_in t) s) usage_all s t n i p left u) where
   -- no more than there are rows
   pub rest-few : left ≤ max_lines
   rest-few = let st = r.stands in omega (arith, expressions-many (line_in t) s st.spells, st.within, st.rows.few)
 
-  pub rest_below : 0 < left → (m k : ℕ) → ((e : Expression) (j : ℕ) → SpellsExpression (line_in t) s next e j → PartsAre (line_in t) s next e j (Expressions m k)) → Rest (SpellsExpressions (line_in t) s) usage_all s t n i p (left - 1 + m) k q
+  pub rest_below : 0 < left → (m k : ℕ) → ((e : Expression) (j : ℕ) → SpellsExpression (line_in t) s u.next e j → PartsAre (line_in t) s u.next e j (Expressions m k)) → Rest (SpellsExpressions (line_in t) s) usage_all s t n i p (left - 1 + m) (record { path = u.path; next = k })
   rest_below h m k parts =
       let S = expressions-series (line_in t) s in
       let st = r.stands in
       let c : m + (left - 1) ≡ left - 1 + m = omega arith in
-      let g = S.first left next st.next st.tree st.spells h in
+      let g = S.first left u.next st.next st.tree st.spells h in
       let b = parts g.0 g.2 g.3 in
       record {
         sound = r.sound;
@@ -292,7 +297,7 @@ module _ {s t : List ℕ} {n i : ℕ} {p : Path} {left next : ℕ} {q : Path} (r
         on = omega (arith, r.on, b.0);
         same = λ x j sp.
             let a = r.same x j sp in
-            let f = S.first left next j a.0 a.1 h in
+            let f = S.first left u.next j a.0 a.1 h in
             let d = parts f.0 f.2 f.3 in
-            (d.1.0 ++ f.1, subst (λ l. SpellsExpressions (line_in t) s l k (d.1.0 ++ f.1) j) c (spells-append (line_in t) s d.1.1 f.4), a.2 ∙ f.5 (table_of s t q) ∙ ap (λ w. w >>= λ t'. usage_all f.1 t') (d.1.2 (table_of s t q)) ∙ all_append d.1.0 f.1 (table_of s t q));
+            (d.1.0 ++ f.1, subst (λ l. SpellsExpressions (line_in t) s l k (d.1.0 ++ f.1) j) c (spells-append (line_in t) s d.1.1 f.4), a.2 ∙ f.5 (table_of s t u.path) ∙ ap (λ w. w >>= λ t'. usage_all f.1 t') (d.1.2 (table_of s t u.path)) ∙ all_append d.1.0 f.1 (table_of s t u.path));
       }

@@ -1,18 +1,18 @@
 -- What stands below an expression's line, and what a walk over trees that may take items answers.
-use Rattle.std.specs.Prelude.{ℕ, zero, suc, ◌<◌, List, [], ◌∷◌, ◌≡◌}
+use Rattle.std.specs.Prelude.{ℕ, zero, suc, ◌<◌, List, [], ◌∷◌, ◌≡◌, Ok, Err}
 use Rattle.ast.specs.Tree.{Expression, Factor, Factors}
 use Rattle.listing.specs.declared.ExpressionLine.{ExpressionLine}
 use Rattle.listing.specs.declared.Line.{Line}
 use Rattle.rows.specs.Rows.{line_in}
 use Rattle.reader.specs.Spells.{SpellsExpression, SpellsFactors}
-use Rattle.rules.specs.Result.{Result, ok, ◌>>=◌}
+use Rattle.rules.specs.Result.{Result, ◌>>=◌}
 use Rattle.rules.specs.Table.{Table}
 use Rattle.rules.specs.Usage.{usage, usage_factor, usage_factors}
 use Rattle.nodes.specs.Stands.{Stands}
 use Rattle.usage.specs.declared.Parts.{Parts}
 use Rattle.usage.specs.declared.Parts.TheVariants.{Named, Expressions, Factors as Signed}
 use Rattle.paths.specs.declared.Path.{Path}
-use Rattle.paths.specs.declared.Used.{Used}
+use Rattle.usage.specs.declared.Used.{Used}
 use Rattle.paths.specs.Path.{table_of, Walked}
 
 -- n expressions, one after the other
@@ -24,7 +24,7 @@ abbrev pub ExpressionsAt : List ℕ → List ℕ → ℕ → ℕ → Type 0
 ExpressionsAt s t n i = Stands (SpellsExpressions (line_in t) s n) s t i
 
 unfoldable pub usage_all : List Expression → Table → Result Table
-usage_all [] t = ok t
+usage_all [] t = Ok t
 usage_all (e ∷ es) t = usage e t >>= λ t'. usage_all es t'
 
 module _ (L : ℕ → Line) (s : List ℕ) where
@@ -43,6 +43,16 @@ module _ (L : ℕ → Line) (s : List ℕ) where
   PartsAre i e j (Expressions n k) = Below i j (usage e) (Expressions n k)
   PartsAre i e j (Signed n k) = Below i j (usage e) (Signed n k)
 
+-- the path of a walk's answer
+abbrev pub path_of : Result Used → Result Path
+path_of (Ok u) = Ok u.path
+path_of (Err x) = Err x
+
+-- what a walk from the path p answers: a rule's result, and after a pass it is at row j
+pub record WalkedTo (s t : List ℕ) (p : Path) (w : Result Table) (j : ℕ) (r : Result Used) : Type 0 where
+  pub walked : Walked s t p w (path_of r)
+  pub next : (u : Used) → r ≡ Ok u → u.next ≡ j
+
 -- a walk from row i and the path p: for every tree that stands there, the rule's answer, and a pass ends where the tree does
-abbrev pub Walks : {A : Type 0} → (ℕ → A → ℕ → Type 0) → (A → Table → Result Table) → List ℕ → List ℕ → ℕ → Path → Used → Type 0
-Walks {A} R rule s t i p u = (e : A) (j : ℕ) → R i e j → Walked s t p (rule e (table_of s t p)) j u
+abbrev pub Walks : {A : Type 0} → (ℕ → A → ℕ → Type 0) → (A → Table → Result Table) → List ℕ → List ℕ → ℕ → Path → Result Used → Type 0
+Walks {A} R rule s t i p r = (e : A) (j : ℕ) → R i e j → WalkedTo s t p (rule e (table_of s t p)) j r

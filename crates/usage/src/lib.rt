@@ -12,12 +12,19 @@ ghost use Rattle.ast.specs.Tree.{Expression, Factor};
 ghost use Rattle.usage.specs.Walk.{SpellsExpressions, ExpressionsAt, usage_all, FactorParts, PartsAre, Walks};
 ghost use Rattle.usage.specs.Names.{has_names, is_name};
 
-use ast::Location;
+use ast::{CompileError, Location};
 use listing::{ExpressionLine, FactorLine, letters};
-use nodes::{Answer, expression_at, factor_at, operand_count, operands_below, skip_factor};
-use paths::{Path, Used, pass, take};
-use rows::row_in;
+use nodes::{expression_at, factor_at, operand_count, operands_below, skip_factor};
+use paths::{Path, take};
+use rows::{Rows, row_in};
 use text::Place;
+
+// What a walk that takes names comes to: the path after it, and the next row.
+#[derive(Clone, Copy, PartialEq, Eq)]
+pub struct Used {
+    pub path: Path,
+    pub next: usize,
+}
 
 // What an expression's line says of the names in it: a name itself, or how many expressions, or factors of a multi-signature, stand below
 // it, and the row of the first.
@@ -33,9 +40,8 @@ fn signatures_at(table: &[u32], i: usize) -> Parts
     requires { Somewhere (λ s. FactorAt s table.now i) }
     ensures { (s : List ℕ) (f : Factor) (j : ℕ) → SpellsFactor (line_in table.now) s i f j → FactorParts (line_in table.now) s i f j result }
 {
-    let line = factor_at(table, i);
     let first = i + 1;
-    match line {
+    match factor_at(table, i) {
         FactorLine::SingleSigFactor(_) => Parts::Expressions(2, first),
         FactorLine::MultiSigFactor(_, _, n) => Parts::Factors(n, first),
     }
@@ -56,94 +62,71 @@ fn parts_at(table: &[u32], i: usize) -> Parts
 }
 
 // The names of an expression, in the order in which they stand.
-pub fn check_variable(listing: &[u8], table: &[u32], i: usize, path: Path) -> Used
-    requires { ExpressionAt listing.now table.now i × WellFormed listing.now table.now path }
-    ensures { Walks (SpellsExpression (line_in table.now) listing.now) usage listing.now table.now i path result }
+pub fn check_variable(rows: &Rows<'_>, i: usize, path: Path) -> Result<Used, CompileError>
+    requires { ExpressionAt rows.now.listing.now rows.now.table.now i × WellFormed rows.now.listing.now rows.now.table.now path }
+    ensures { Walks (SpellsExpression (line_in rows.now.table.now) rows.now.listing.now) usage rows.now.listing.now rows.now.table.now i path result }
 {
-    check_variables(listing, table, i, 1, path)
+    check_variables(rows, i, 1, path)
 }
 
 // The names of n expressions, one after the other: left before right, signature before key. What stands below a line is counted among
 // what is still due, so that the path is not handed down.
 #[cycle(check_factors_check_inner_check_variables)]
-fn check_variables(listing: &[u8], table: &[u32], i: usize, n: u32, path: Path) -> Used
-    requires { ExpressionsAt listing.now table.now n i × WellFormed listing.now table.now path }
-    ensures { Walks (SpellsExpressions (line_in table.now) listing.now n) usage_all listing.now table.now i path result }
+fn check_variables(rows: &Rows<'_>, i: usize, n: u32, path: Path) -> Result<Used, CompileError>
+    requires { ExpressionsAt rows.now.listing.now rows.now.table.now n i × WellFormed rows.now.listing.now rows.now.table.now path }
+    ensures { Walks (SpellsExpressions (line_in rows.now.table.now) rows.now.listing.now n) usage_all rows.now.listing.now rows.now.table.now i path result }
 {
-    let mut out = path;
-    let mut next = i;
+    let mut used = Used { path, next: i };
     let mut due = n;
     while 0 < due {
         due -= 1;
-        let parts = parts_at(table, next);
-        match parts {
+        match parts_at(rows.table, used.next) {
             Parts::Expressions(count, first) => {
                 due += count;
-                next = first;
+                used.next = first;
             }
             Parts::Named(loc, x) => {
-                let used = take(listing, table, next, loc, x, out);
-                let answer = used.answer;
-                let Answer::Pass(m) = answer else {
-                    return used;
-                };
-                next = m;
-                out = used.path;
+                used.path = take(rows, used.next, loc, x, used.path)?;
+                used.next += 1;
             }
             Parts::Factors(count, first) => {
-                let used = check_factors(listing, table, first, count, out);
-                let answer = used.answer;
-                let Answer::Pass(m) = answer else {
-                    return used;
-                };
-                next = m;
-                out = used.path;
+                used = check_factors(rows, first, count, used.path)?;
             }
         }
     }
-    pass(out, next)
+    Ok(used)
 }
 
 // A factor of a multi-signature: one that is a multi-signature itself is skipped.
 #[cycle(check_factors_check_inner_check_variables)]
-fn check_inner(listing: &[u8], table: &[u32], i: usize, path: Path) -> Used
-    requires { FactorAt listing.now table.now i × WellFormed listing.now table.now path }
-    ensures { Walks (SpellsFactor (line_in table.now) listing.now) usage_inner listing.now table.now i path result }
+fn check_inner(rows: &Rows<'_>, i: usize, path: Path) -> Result<Used, CompileError>
+    requires { FactorAt rows.now.listing.now rows.now.table.now i × WellFormed rows.now.listing.now rows.now.table.now path }
+    ensures { Walks (SpellsFactor (line_in rows.now.table.now) rows.now.listing.now) usage_inner rows.now.listing.now rows.now.table.now i path result }
 {
-    let line = factor_at(table, i);
-    match line {
-        FactorLine::SingleSigFactor(_) => check_variables(listing, table, i + 1, 2, path),
-        FactorLine::MultiSigFactor(_, _, _) => pass(path, skip_factor(table, i)),
+    match factor_at(rows.table, i) {
+        FactorLine::SingleSigFactor(_) => check_variables(rows, i + 1, 2, path),
+        FactorLine::MultiSigFactor(..) => Ok(Used {
+            path,
+            next: skip_factor(rows.table, i),
+        }),
     }
 }
 
 // The n factors of a multi-signature.
 #[cycle(check_factors_check_inner_check_variables)]
-fn check_factors(listing: &[u8], table: &[u32], i: usize, n: u32, path: Path) -> Used
-    requires { FactorsAt listing.now table.now n i × WellFormed listing.now table.now path }
-    ensures { Walks (SpellsFactors (line_in table.now) listing.now n) usage_factors listing.now table.now i path result }
+fn check_factors(rows: &Rows<'_>, i: usize, n: u32, path: Path) -> Result<Used, CompileError>
+    requires { FactorsAt rows.now.listing.now rows.now.table.now n i × WellFormed rows.now.listing.now rows.now.table.now path }
+    ensures { Walks (SpellsFactors (line_in rows.now.table.now) rows.now.listing.now n) usage_factors rows.now.listing.now rows.now.table.now i path result }
 {
-    let mut out = path;
-    let mut next = i;
-    let mut left = n;
-    while 0 < left {
-        let one = check_inner(listing, table, next, out);
-        let answer = one.answer;
-        match answer {
-            Answer::Pass(m) => {
-                next = m;
-            }
-            Answer::Fault(_) => {
-                return one;
-            }
-        }
-        out = one.path;
-        left -= 1;
+    let mut used = Used { path, next: i };
+    for _ in 0..n {
+        used = check_inner(rows, used.next, used.path)?;
     }
-    pass(out, next)
+    Ok(used)
 }
 
 // Whether row i is a variable's line.
+#[tactic(auto, unfolding(rows::specs::Rows::line_in, rows::specs::Rows::line_of, rows::specs::Rows::kept_as))]
 fn is_name(table: &[u32], i: usize) -> bool
     requires { HasRow table.now i }
     ensures { result ≡ is_name (line_in table.now i) }

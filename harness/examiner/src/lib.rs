@@ -2,7 +2,7 @@
 //! (crates/bithoven_examiner/include/bithoven_examiner.h).
 //!
 //! `safe` is a wrapper for others to copy. What stands here is for the harness, which wants the words as they were written: a
-//! call takes up to 1.21 MB of stack, so make it on a thread that has more.
+//! call takes up to 0.19 MB of stack, so make it on a thread that has more.
 
 pub mod safe;
 

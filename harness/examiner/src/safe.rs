@@ -37,7 +37,7 @@ extern "C" {
     ) -> u32;
 }
 
-/// A call takes up to 1.21 MB of its thread's stack, and nothing checks it: each is made on a thread with this much.
+/// A call takes up to 0.19 MB of its thread's stack, and nothing checks it: each is made on a thread with this much.
 const STACK: usize = 2 << 20;
 
 /// No report is longer. Each line of an acceptance comes of a line of the listing (`A` of `T`, `D` of `D`, `P` of `P`, `W` of

@@ -1,88 +1,46 @@
-use mathlib.Core.List.{[]}
-use mathlib.Core.Path.{ap, ◌∙◌}
-use lib.ListN.{length, get_or}
-use Rattle.tables.proofs.State.{turned-says, turned-branch}
-use Rattle.tables.proofs.Counting.{block-stands}
-use Rattle.analyze.proofs.Analyzing.{stops-at-shape, stops-at-build, first-in-use, stops-at-walk, ends, given-at}
+use Rattle.std.proofs.Common.{sym, ◌∙◌}
+use Rattle.blocks.proofs.Blocks.{moved-to, moved-stops}
+use Rattle.analyze.proofs.Analyzing.{for_target, shape-err, build-err, walk-err, left-err, left-none, answers-err, answers-ok, answered-ok, answered-err}
 use Rattle.analyze.proofs.analyze.Goals as goal
 
-pub check_shape-shape-requires : goal.check_shape-shape-requires
-check_shape-shape-requires c =
-    let pre = c.requires in
-    let C = pre.0 in
-    let g = given-at C (pre.1 C.contract C.spells) in
-    (c.args.listing.now, g)
-
-pub refuse-requires : goal.refuse-requires
-refuse-requires c = (c.requires.2, c.requires.3)
-
-pub returns-in-Err : goal.returns-in-Err
-returns-in-Err c = λ x sp. let D = c.requires.1 x sp in stops-at-shape D (c.check_shape-shape.ensures _ x _ D) c.in-Err.is c.refuse.ensures
-
-pub build_tables-built-requires : goal.build_tables-built-requires
-build_tables-built-requires c =
-    let pre = c.requires in
-    let C = pre.0 in
-    let g = given-at C (pre.1 C.contract C.spells) in
+pub returns-in_err-check_shape : goal.returns-in_err-check_shape
+returns-in_err-check_shape c = λ x sp.
     let a = c.args in
-    let put = c.put_branch.ensures in
-    (g, pre.2, ap length put ∙ (turned-says a.out.now 0 [] pre.3).2, ap (λ o. get_or o 6 0) put ∙ turned-branch a.out.now 0 pre.3)
+    let D = c.requires.1 x sp in
+    answers-err _ c.from_residual.ensures.1 (shape-err a.rows.now.listing.now a.rows.now.table.now a.d x (sym (c.check_shape.ensures a.rows.now.listing.now x a.n D) ∙ c.in_err-check_shape.was))
 
-pub returns-then-out-ne0 : goal.returns-then-out-ne0
-returns-then-out-ne0 c =
-    let pre = c.requires in
-    λ x sp.
-    let D = pre.1 x sp in
-    let shape = c.check_shape-shape.ensures _ x _ D in
-    let passes = c.in-Ok.is in
-    let m₁ = c.build_tables-built.ensures x _ D in
-    stops-at-build D shape passes m₁ c.if-out-ne0.true
+pub returns-in_err-build_tables : goal.returns-in_err-build_tables
+returns-in_err-build_tables c = λ x sp.
+    let a = c.args in
+    let D = c.requires.1 x sp in
+    let shape = sym (c.check_shape.ensures a.rows.now.listing.now x a.n D) ∙ c.in_ok-check_shape.was in
+    answers-err _ c.from_residual-in_err-build_tables.ensures.1 (build-err a.rows.now.listing.now a.rows.now.table.now a.d x shape (answered-err (c.build_tables.ensures x a.n D) c.in_err-build_tables.was))
 
-pub path_in_use-path-requires : goal.path_in_use-path-requires
-path_in_use-path-requires c =
-    let pre = c.requires in
-    let C = pre.0 in
-    let g = given-at C (pre.1 C.contract C.spells) in
-    ((c.build_tables-built.ensures _ _ g.declared).ready c.if-out-ne0.false).few
+pub returns-in_err-analyze_block : goal.returns-in_err-analyze_block
+returns-in_err-analyze_block c = λ x sp.
+    let a = c.args in
+    let D = c.requires.1 x sp in
+    let shape = sym (c.check_shape.ensures a.rows.now.listing.now x a.n D) ∙ c.in_ok-check_shape.was in
+    let built = answered-ok (c.build_tables.ensures x a.n D) c.in_ok-build_tables.was in
+    let walked = for_target x.block _ D.target (moved-stops _ (c.analyze_block.ensures.moved x.block a.n D.block) c.in_err-analyze_block.was) in
+    answers-err _ c.from_residual-in_err-analyze_block.ensures.1 (walk-err a.rows.now.listing.now a.rows.now.table.now a.d x shape built walked)
 
-pub analyze_block-held-requires : goal.analyze_block-held-requires
-analyze_block-held-requires c =
-    let pre = c.requires in
-    let C = pre.0 in
-    let g = given-at C (pre.1 C.contract C.spells) in
-    let m₁ = c.build_tables-built.ensures _ _ g.declared in
-    let shape = c.check_shape-shape.ensures _ _ _ g.declared in
-    let passes = c.in-Ok.is in
-    let z₁ = c.if-out-ne0.false in
-    (block-stands g, m₁.ready z₁, m₁.full, first-in-use g.declared shape passes m₁ z₁ c.path_in_use-path.ensures.value)
-
-pub returns-then-out-ne0-2 : goal.returns-then-out-ne0-2
-returns-then-out-ne0-2 c =
-    let pre = c.requires in
-    λ x sp.
-    let D = pre.1 x sp in
-    let shape = c.check_shape-shape.ensures _ x _ D in
-    let passes = c.in-Ok.is in
-    let m₁ = c.build_tables-built.ensures x _ D in
-    let z₁ = c.if-out-ne0.false in
-    let m₂ = c.analyze_block-held.ensures x.block _ D.block in
-    stops-at-walk D shape passes m₁ z₁ c.path_in_use-path.ensures.value m₂ c.if-out-ne0-2.true
-
-pub finish-requires : goal.finish-requires
-finish-requires c =
-    let C = c.requires.0 in
-    let g = given-at C (c.requires.1 C.contract C.spells) in
-    let m₂ = c.analyze_block-held.ensures _ _ g.declared.block in
-    (m₂.ready c.if-out-ne0-2.false, m₂.full)
+pub returns-in_err-check_unused : goal.returns-in_err-check_unused
+returns-in_err-check_unused c = λ x sp.
+    let a = c.args in
+    let D = c.requires.1 x sp in
+    let shape = sym (c.check_shape.ensures a.rows.now.listing.now x a.n D) ∙ c.in_ok-check_shape.was in
+    let built = answered-ok (c.build_tables.ensures x a.n D) c.in_ok-build_tables.was in
+    let on = moved-to (c.analyze_block.ensures.moved x.block a.n D.block) c.in_ok-analyze_block.was in
+    let walked = for_target x.block _ D.target on.0 in
+    answers-err _ c.from_residual-in_err-check_unused.ensures.1 (left-err a.rows.now.listing.now a.rows.now.table.now a.d x shape built walked (sym (c.check_unused.ensures a.rows.now.listing.now on.2) ∙ c.in_err-check_unused.was))
 
 pub returns : goal.returns
-returns c =
-    let pre = c.requires in
-    λ x sp.
-    let D = pre.1 x sp in
-    let shape = c.check_shape-shape.ensures _ x _ D in
-    let passes = c.in-Ok.is in
-    let m₁ = c.build_tables-built.ensures x _ D in
-    let z₁ = c.if-out-ne0.false in
-    let m₂ = c.analyze_block-held.ensures x.block _ D.block in
-    ends D shape passes m₁ z₁ c.path_in_use-path.ensures.value m₂ c.if-out-ne0-2.false c.finish.ensures
+returns c = λ x sp.
+    let a = c.args in
+    let D = c.requires.1 x sp in
+    let shape = sym (c.check_shape.ensures a.rows.now.listing.now x a.n D) ∙ c.in_ok-check_shape.was in
+    let built = answered-ok (c.build_tables.ensures x a.n D) c.in_ok-build_tables.was in
+    let on = moved-to (c.analyze_block.ensures.moved x.block a.n D.block) c.in_ok-analyze_block.was in
+    let walked = for_target x.block _ D.target on.0 in
+    answers-ok _ (left-none a.rows.now.listing.now a.rows.now.table.now a.d x shape built walked (sym (c.check_unused.ensures a.rows.now.listing.now on.2) ∙ c.in_ok-check_unused.was)) on.2

@@ -1,52 +1,43 @@
-use Prim.Native.Nat.{◌-◌, ◌+◌, ◌*◌}
-use native.Mathlib.Omega.{arith}
-use mathlib.Core.Path.{◌≡◌, refl, sym, ap, ◌∙◌}
-use borrow.Author.Tests.{not-true, not-false}
-use lib.ListN.{get_or}
-use Rattle.decimals.specs.declared.DecimalRead.{DecimalRead}
-use Rattle.text.proofs.Fields.{digit-range, digits-stop, digits-past, Digits, capped-step, capped-got, capped-over}
-use Rattle.decimals.proofs.Decimals.{push-fits, push-over}
+use Rattle.std.proofs.Common.{◌≡◌, ◌≤◌, ◌+◌, ◌*◌, length, length-drop, arith, sym, ap, ◌∙◌}
+use Rattle.text.proofs.Cursors.{rest_inside, rest_byte, digit-none, number_from, number-digit, number-stop, number-past, number-over}
+use Rattle.text.specs.Text.{is_digit}
+use Rattle.decimals.proofs.Pushed.{over, fits}
+use Rattle.decimals.proofs.more_digits.Goals.{In-Some}
 use Rattle.decimals.proofs.more_digits.Goals as goal
 
-pub returns-then-limit-first : goal.returns-then-limit-first
-returns-then-limit-first c = let a = c.args in capped-over DecimalRead.Got DecimalRead.Failed a.listing.now a.limit a.first a.at c.if-limit-first.true
+pub returns-then-limit-first-clause-value : goal.returns-then-limit-first-clause-value
+returns-then-limit-first-clause-value c = number-over c.args.limit c.args.first c.args.c c.if-limit-first.true
 
-pub loop-i-init : goal.loop-i-init
-loop-i-init c = (c.if-limit-first.false, refl)
+pub returns-in_default-clause-value : goal.returns-in_default-clause-value
+returns-in_default-clause-value c =
+    let l = c.loop-k in
+    let k = c.args.c in
+    number-stop c.args.limit l.v (record k { at = k.at + l.k }) l.invariant.small (rest_inside k c.rest-rest.ensures c.loop-k-test.true) (ap is_digit (sym (rest_byte k c.rest-rest.ensures c.loop-k-test.true)) ∙ digit-none _ (sym c.digit.ensures ∙ c.in_default.is)) ∙ l.invariant.same
 
-pub returns-then-not-is_digit : goal.returns-then-not-is_digit
-returns-then-not-is_digit c =
-    let a = c.args in
-    let l = c.loop-i in
-    let out = sym c.is_digit.ensures ∙ not-true _ c.if-not-is_digit.true-raw in
-    capped-got DecimalRead.Got DecimalRead.Failed a.listing.now a.limit l.v l.i l.invariant.0 (digits-stop l.v a.listing.now l.i c.loop-i-test.true out) ∙ l.invariant.1
+-- the digit at the position is one more
+step : (c : In-Some) → number_from c.args.limit (c.loop-k.v * 10 + c.in-Some.n) (record c.args.c { at = c.args.c.at + (c.loop-k.k + 1) }) ≡ number_from c.args.limit c.args.first c.args.c
+step c =
+    let l = c.loop-k in
+    let k = c.args.c in
+    let next : k.at + (l.k + 1) ≡ k.at + l.k + 1 = omega arith in
+    rw next (number-digit c.args.limit (record k { at = k.at + l.k }) (rest_inside k c.rest-rest.ensures c.loop-k-test.true) (rest_byte k c.rest-rest.ensures c.loop-k-test.true) l.v (sym c.digit.ensures ∙ c.in-Some.is) ∙ l.invariant.same)
 
-pub overflow_sub-wide : goal.overflow_sub-wide
-overflow_sub-wide c = omega (arith, c.wide.ensures, digit-range _ (sym c.is_digit.ensures ∙ not-false _ c.if-not-is_digit.false-raw))
+pub returns-in_err-v-clause-value : goal.returns-in_err-v-clause-value
+returns-in_err-v-clause-value c = c.from_residual.ensures ∙ number-over c.args.limit (c.loop-k.v * 10 + c.in-Some.n) _ (over _ _ (sym c.push_digit.ensures ∙ c.in_err-v.was)) ∙ step (goal.at.returns-in_err-v-clause-value c).In-Some
 
-pub returns-in_default : goal.returns-in_default
-returns-in_default c =
-    let a = c.args in
-    let l = c.loop-i in
-    let s = a.listing.now in
-    let digit = sym c.is_digit.ensures ∙ not-false _ c.if-not-is_digit.false-raw in
-    let d = ap (λ b. b - 48) c.wide.ensures in
-    let over = push-over _ a.limit (sym c.push_digit.ensures ∙ c.in_default.is) in
-    capped-over DecimalRead.Got DecimalRead.Failed s a.limit (l.v * 10 + (get_or s l.i 0 - 48)) (l.i + 1) (omega (arith, over, d)) ∙ capped-step DecimalRead.Got DecimalRead.Failed s a.limit l.v l.i c.loop-i-test.true digit ∙ l.invariant.1
+pub loop-k-preserved : goal.loop-k-preserved
+loop-k-preserved c =
+    let f = fits _ _ _ (sym c.push_digit.ensures ∙ c.in_ok-v.was) in
+    record {
+      small = omega (arith, f);
+      same = rw f.0 at (step (goal.at.loop-k-preserved c).In-Some);
+    }
 
-pub loop-i-preserved : goal.loop-i-preserved
-loop-i-preserved c =
-    let a = c.args in
-    let l = c.loop-i in
-    let s = a.listing.now in
-    let digit = sym c.is_digit.ensures ∙ not-false _ c.if-not-is_digit.false-raw in
-    let d = ap (λ b. b - 48) c.wide.ensures in
-    let fits = push-fits _ a.limit _ (sym c.push_digit.ensures ∙ c.in-Fits.is) in
-    let same : c.in-Fits.next ≡ l.v * 10 + (get_or s l.i 0 - 48) = omega (arith, fits, d) in
-    (omega (arith, fits), ap (λ v. Digits DecimalRead.Got DecimalRead.Failed s a.limit v (l.i + 1)) same ∙ capped-step DecimalRead.Got DecimalRead.Failed s a.limit l.v l.i c.loop-i-test.true digit ∙ l.invariant.1)
-
-pub returns : goal.returns
-returns c =
-    let a = c.args in
-    let l = c.loop-i in
-    capped-got DecimalRead.Got DecimalRead.Failed a.listing.now a.limit l.v l.i l.invariant.0 (digits-past l.v a.listing.now l.i c.loop-i-test.false) ∙ l.invariant.1
+pub returns-clause-value : goal.returns-clause-value
+returns-clause-value c =
+    let l = c.loop-k in
+    let k = c.args.c in
+    let n = length c.rest-rest.result.now in
+    let done : l.k ≡ n = omega arith in
+    let past : length k.listing.now ≤ k.at + n = omega (arith, ap length c.rest-rest.ensures, length-drop k.at k.listing.now) in
+    number-past c.args.limit l.v (record k { at = k.at + n }) l.invariant.small past ∙ rw done at l.invariant.same

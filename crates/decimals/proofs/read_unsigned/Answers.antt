@@ -1,22 +1,13 @@
-use Prim.Native.Nat.{◌^◌, ◌-◌}
-use Rattle.text.specs.Text.{yield, up_to, unsigned}
-use Rattle.decimals.specs.declared.DecimalRead.{DecimalRead}
-use Rattle.text.specs.declared.SignedRead.{SignedRead}
-use Rattle.text.proofs.Places.{up_to-keeps, bind-got, bind-failed}
-use Rattle.text.proofs.Told.{answer-got, answer-failed, told-got, told-failed}
-use Rattle.decimals.proofs.Decimals.{decimal-tells}
+use Rattle.std.proofs.Common.{◌^◌, ◌-◌, false, sym, ◌∙◌}
+use Rattle.text.specs.Text.{up_to, yield, unsigned}
+use Rattle.text.proofs.Places.{up_to-keeps}
+use Rattle.text.proofs.Cursors.{bind-some, bind-none, yield-some}
 use Rattle.decimals.proofs.read_unsigned.Goals as goal
 
-pub returns-in_default : goal.returns-in_default
+pub returns-in_err-magnitude : goal.returns-in_err-magnitude
 unfolding unsigned
-returns-in_default c =
-    let a = c.args in
-    let s = a.listing.now in
-    answer-failed SignedRead.Got SignedRead.Failed unsigned s a.at (bind-failed (up_to (2 ^ 63 - 1)) _ s a.at (told-failed DecimalRead.Got DecimalRead.Failed decimal-tells (up_to (2 ^ 63 - 1)) s a.at c.read_decimal.ensures c.in_default.is))
+returns-in_err-magnitude c = c.from_residual.ensures ∙ sym (bind-none _ _ (up_to-keeps (2 ^ 63 - 1)) c.args.c (sym c.read_decimal.ensures.value ∙ c.in_err-magnitude.was))
 
 pub returns : goal.returns
-unfolding unsigned yield
-returns c =
-    let a = c.args in
-    let s = a.listing.now in
-    answer-got SignedRead.Got SignedRead.Failed unsigned s a.at (bind-got (up_to (2 ^ 63 - 1)) _ s a.at (told-got DecimalRead.Got DecimalRead.Failed decimal-tells (up_to (2 ^ 63 - 1)) (up_to-keeps (2 ^ 63 - 1)) s a.at c.read_decimal.ensures c.in-Got.is))
+unfolding unsigned
+returns c = sym (bind-some (up_to (2 ^ 63 - 1)) (λ v. yield (record { negative = false; magnitude = v })) (up_to-keeps (2 ^ 63 - 1)) c.args.c (sym c.read_decimal.ensures.value ∙ c.in_ok-magnitude.was) ∙ yield-some _ _)

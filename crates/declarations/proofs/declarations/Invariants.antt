@@ -1,13 +1,8 @@
 -- The invariant: of the first p declarations all is noted, and the next one stands at row `at`.
-use Prim.Native.Nat.{◌-◌, ◌≤◌, ◌+◌}
 use mathlib.Core.Path.{◌≡◌}
 use Rattle.rows.specs.Rows.{line_in}
-use Rattle.reader.specs.Ceilings.{max_declarations}
-use Rattle.declarations.specs.Noted.{items_said, declaration_row, noted}
+use Rattle.declarations.specs.Noted.{declaration_row, rows_below, noted}
 use Rattle.declarations.proofs.declarations.Given as goal
 
 abbrev pub invariant-loop-p : goal.invariant-loop-p
-invariant-loop-p l = (l.p ≤ l.count) × (l.count ≤ max_declarations) × (l.firsts ≡ noted (λ p. declaration_row (line_in l.table) p + 1) l.p) × (l.counts ≡ noted (λ p. items_said (line_in l.table (declaration_row (line_in l.table) p))) l.p) × (l.at ≡ declaration_row (line_in l.table) l.p)
-
-abbrev pub decreases-loop-p : goal.decreases-loop-p
-decreases-loop-p l = l.count - l.p
+invariant-loop-p l = (l.items ≡ noted (λ p. rows_below (line_in l.rows.table.now) (declaration_row (line_in l.rows.table.now) p)) l.p) × (l.at ≡ declaration_row (line_in l.rows.table.now) l.p)

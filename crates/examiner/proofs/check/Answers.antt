@@ -1,24 +1,17 @@
-use Rattle.examiner.proofs.Checking.{refuses, may-check, answers}
+use Rattle.std.proofs.Common.{◌≡◌, rules}
+use Rattle.rules.specs.Result.{answer}
+use Rattle.rules.specs.Analyze.{analyze as analyze_of}
+use Rattle.examiner.proofs.Checking.{refuses, answers}
 use Rattle.examiner.proofs.check.Goals as goal
 
-pub check_rows-requires : goal.check_rows-requires
-check_rows-requires c =
-    let a = c.args in
-    let r = c.read_listing-read in
-    let e = c.in-Ok.is in
-    may-check a.listing.now a.work.now r.new.work r.ensures.value r.ensures.work_after _ e (r.ensures.spelled _ e)
+pub returns-in_err-examine : goal.returns-in_err-examine
+returns-in_err-examine c =
+    let all = refuses c.args.listing.now _ (c.examine.ensures.refused _ c.in_err-examine.was).0 c.from_residual.result c.from_residual.ensures.1 in
+    record { value = all.0; work_after = c.examine.ensures.work_after; variant = all.1 }
 
-pub returns-in-Err : goal.returns-in-Err
-returns-in-Err c =
-    let a = c.args in
-    let r = c.read_listing-read in
-    let all = refuses a.listing.now a.work.now r.new.work r.ensures.value r.ensures.work_after _ c.in-Err.is in
-    record { value = all.0; work_after = all.1.0; variant = all.1.1 }
-
-pub returns-in-Ok : goal.returns-in-Ok
-returns-in-Ok c =
-    let a = c.args in
-    let r = c.read_listing-read in
-    let e = c.in-Ok.is in
-    let all = answers a.listing.now a.work.now r.new.work r.ensures.value r.ensures.work_after _ e (r.ensures.spelled _ e) _ _ c.check_rows.ensures.value c.check_rows.ensures.work_after in
-    record { value = all.0; work_after = all.1.0; variant = all.1.1 }
+pub returns : goal.returns
+returns c =
+    let m = c.examine.ensures.made _ c.in_ok-examine.was in
+    let found : c.in_ok-examine.field-0 ≡ answer (analyze_of m.contract) = search rules in
+    let all = answers c.args.listing.now _ m.analyzed _ found in
+    record { value = all.0; work_after = c.examine.ensures.work_after; variant = all.1 }

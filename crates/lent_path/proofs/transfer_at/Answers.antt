@@ -1,24 +1,21 @@
-use mathlib.Core.Path.{sym, ◌∙◌}
-use borrow.Author.Tests.{not-true, not-false}
-use Rattle.paths.proofs.Walks.{walk_is}
-use Rattle.lent_path.proofs.Laws.{path-sound, path-full, transfer-first, transfer-second, transfer-missing, transfer-here, kept-err, kept-walk}
+use mathlib.Core.Path.{sym, ap, ◌∙◌}
+use Rattle.std.specs.Prelude.{Err}
+use Rattle.paths.proofs.Walks.{walk-fault, walk_is}
+use Rattle.lent_path.specs.Lent.{transfer_at}
 use Rattle.lent_path.proofs.transfer_at.Goals as goal
+use Rattle.lent_path.proofs.transfer_at.Goals.{then-not-is_path-via-then-not-is_path, then-not-is_path-via-else-not-is_path+then-not-is_path-2}
 
 pub returns-then-not-is_path : goal.returns-then-not-is_path
-returns-then-not-is_path c = let a = c.args in kept-err c.unfit.ensures (transfer-first a.listing.now a.table.now a.i a.from a.to (sym c.is_path.ensures ∙ not-true _ c.if-not-is_path.true-raw))
+unfolding transfer_at
+returns-then-not-is_path c = walk-fault (ap Err c.unfit.ensures) (elim c.then-not-is_path.branch [
+  | then-not-is_path-via-then-not-is_path w ↦ rw (sym c.is_path.ensures.value ∙ w.if-not-is_path.true)
+  | then-not-is_path-via-else-not-is_path+then-not-is_path-2 w ↦ rw (sym c.is_path.ensures.value ∙ w.if-not-is_path.false, sym w.is_path-else-not-is_path.ensures.value ∙ w.if-not-is_path-2.true)
+])
 
-pub returns-then-not-is_path-2 : goal.returns-then-not-is_path-2
-returns-then-not-is_path-2 c = let a = c.args in kept-err c.unfit-then-not-is_path-2.ensures (transfer-second a.listing.now a.table.now a.i a.from a.to (sym c.is_path.ensures ∙ not-false _ c.if-not-is_path.false-raw) (sym c.is_path-2.ensures ∙ not-true _ c.if-not-is_path-2.true-raw))
+pub returns-in_default : goal.returns-in_default
+unfolding transfer_at
+returns-in_default c = walk-fault (ap Err c.unfit-in_default.ensures) (rw (sym c.is_path.ensures.value ∙ c.if-not-is_path.false, sym c.is_path-else-not-is_path.ensures.value ∙ c.if-not-is_path-2.false, sym c.if_at.ensures ∙ c.in_default.is))
 
-pub transfer_prefix_consumption-requires : goal.transfer_prefix_consumption-requires
-transfer_prefix_consumption-requires c =
-    let a = c.args in
-    (path-sound a.listing.now a.table.now a.from (path-full a.from _ c.well_formed.1.1.1.0) (sym c.is_path.ensures ∙ not-false _ c.if-not-is_path.false-raw), path-sound a.listing.now a.table.now a.to (path-full a.to _ c.well_formed.1.1.1.1.0) (sym c.is_path-2.ensures ∙ not-false _ c.if-not-is_path-2.false-raw))
-
-pub returns-in-If : goal.returns-in-If
-returns-in-If c =
-    let a = c.args in
-    kept-walk (walk_is c.transfer_prefix_consumption.ensures (transfer-here a.listing.now a.table.now a.i a.from a.to (sym c.is_path.ensures ∙ not-false _ c.if-not-is_path.false-raw) (sym c.is_path-2.ensures ∙ not-false _ c.if-not-is_path-2.false-raw) (sym c.if_at-b.ensures ∙ c.in-If.is))) c.keep.ensures
-
-pub returns-in-Other : goal.returns-in-Other
-returns-in-Other c = let a = c.args in kept-err c.unfit-in-Other.ensures (transfer-missing a.listing.now a.table.now a.i a.from a.to (sym c.is_path.ensures ∙ not-false _ c.if-not-is_path.false-raw) (sym c.is_path-2.ensures ∙ not-false _ c.if-not-is_path-2.false-raw) (sym c.if_at-b.ensures ∙ c.in-Other.is))
+pub returns : goal.returns
+unfolding transfer_at
+returns c = walk_is c.transfer_prefix_consumption.ensures (rw (sym c.is_path.ensures.value ∙ c.if-not-is_path.false, sym c.is_path-else-not-is_path.ensures.value ∙ c.if-not-is_path-2.false, sym c.if_at.ensures ∙ c.in-Some.is))

@@ -1,9 +1,5 @@
-use Prim.Native.Nat.{◌-◌, ◌≤◌}
 use Rattle.names.proofs.Laws.{Left}
 use Rattle.names.proofs.find_item.Given as goal
 
 abbrev pub invariant-loop-k : goal.invariant-loop-k
-invariant-loop-k l = (l.k ≤ l.count) × Left l.listing l.table l.first l.count l.k l.x
-
-abbrev pub decreases-loop-k : goal.decreases-loop-k
-decreases-loop-k l = l.count - l.k
+invariant-loop-k l = Left l.rows.listing.now l.rows.table.now l.items.first l.items.count l.k l.name

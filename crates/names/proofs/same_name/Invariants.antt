@@ -1,11 +1,5 @@
-use Prim.Native.Nat.{◌+◌, ◌≤◌}
-use mathlib.Core.Path.{◌≡◌}
-use lib.ListN.{length}
-use Rattle.names.proofs.Laws.{same_from}
+use Rattle.std.proofs.Common.{◌≡◌, ℕ, ◌<◌, ◌≤◌, length, get_or}
 use Rattle.names.proofs.same_name.Given as goal
 
 abbrev pub invariant-loop-k : goal.invariant-loop-k
-invariant-loop-k l = (l.k ≤ l.n) × (l.i + l.n ≤ length l.listing) × (l.j + l.n ≤ length l.listing) × (same_from l.listing l.i l.j l.k ≡ same_from l.listing l.i l.j l.n)
-
-abbrev pub decreases-loop-k : goal.decreases-loop-k
-decreases-loop-k l = l.k
+invariant-loop-k l = (i : ℕ) → l.k ≤ i → i < length l.a → get_or l.a i 0 ≡ get_or l.b i 0

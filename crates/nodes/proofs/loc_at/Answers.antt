@@ -8,4 +8,4 @@ pub returns : goal.returns
 unfolding line_in
 returns c s e j sp =
     let a = c.args in
-    c.place_in.ensures ∙ ap place_in c.row_in.ensures ∙ loc-row (line_in a.table.now) s a.i j e (row_in a.table.now a.i) (expression-from (line_in a.table.now) s sp)
+    c.location.ensures ∙ ap place_in c.row_in.ensures ∙ loc-row (line_in a.table.now) s a.i j e (row_in a.table.now a.i) (expression-from (line_in a.table.now) s sp)

@@ -1,17 +1,17 @@
-use mathlib.Core.Path.{sym, ◌∙◌}
-use Rattle.nodes.specs.Stands.{walked}
+use mathlib.Core.Path.{sym, ap, ◌∙◌}
+use Rattle.std.proofs.Common.{Err}
 use Rattle.rules.specs.Types.{or17, of_type, variable}
 use Rattle.operands.proofs.Leaves.{found_some, found_none}
 use Rattle.operands.proofs.check_variable_type.Goals as goal
 
-pub returns-then-is_wanted : goal.returns-then-is_wanted
-unfolding walked variable of_type or17
-returns-then-is_wanted c d q = rw (found_some _ (sym (c.type_of-found.ensures d q) ∙ c.in-Of.is), sym c.is_wanted.ensures ∙ c.if-is_wanted.true)
+pub returns-in-None : goal.returns-in-None
+unfolding variable of_type
+returns-in-None g c d p q h = rw (found_none _ (sym (c.in-None.ensures d q))) (ap Err c.new.ensures)
 
-pub returns-in-Unknown : goal.returns-in-Unknown
-unfolding walked variable of_type
-returns-in-Unknown c d q = rw (found_none _ (sym (c.type_of-found.ensures d q) ∙ c.in-Unknown.is)) c.refuse.ensures
+pub returns-then-wanted : goal.returns-then-wanted
+unfolding variable of_type or17
+returns-then-wanted g c d p q h = rw (found_some _ (sym (c.in-Some.ensures d q)), sym (h _ _ c.wanted.ensures) ∙ c.if-wanted.true)
 
-pub returns-else-is_wanted : goal.returns-else-is_wanted
-unfolding walked variable of_type or17
-returns-else-is_wanted c d q = rw (found_some _ (sym (c.type_of-found.ensures d q) ∙ c.in-Of.is), sym c.is_wanted.ensures ∙ c.if-is_wanted.false) c.refuse-in-Of.ensures
+pub returns-else-wanted : goal.returns-else-wanted
+unfolding variable of_type or17
+returns-else-wanted g c d p q h = rw (found_some _ (sym (c.in-Some.ensures d q)), sym (h _ _ c.wanted.ensures) ∙ c.if-wanted.false) (ap Err c.new-else-wanted.ensures)

@@ -1,28 +1,29 @@
-use Prim.Native.Nat.{◌-◌}
+use Prim.Native.Nat.{◌+◌, ◌-◌, ◌<◌}
 use native.Mathlib.Omega.{arith}
-use mathlib.Core.Path.{sym, ◌∙◌}
+use mathlib.Core.Path.{sym, ap, ◌∙◌}
 use Rattle.ast.specs.Tree.{from_top}
+use Rattle.rows.specs.Rows.{line_in}
+use Rattle.names.specs.Items.{NamedRow, found_in}
 use Rattle.names.proofs.Laws.{items-named, type-found, type-missing}
-use Rattle.operands.specs.Typed.{type_found}
 use Rattle.operands.proofs.Leaves.{found-low}
+use Rattle.operands.proofs.type_of.Goals.{In_ok-k}
 use Rattle.operands.proofs.type_of.Goals as goal
 
-pub overflow_sub-count : goal.overflow_sub-count
-overflow_sub-count c = omega (arith, found-low _ _ c.args.context _ _ c.requires.0 c.find_item-found.ensures c.in-At.is)
+-- the item found is one of the declaration
+low : (c : In_ok-k) → c.in_ok-k.k < c.args.context.items.count
+low c = found-low _ _ c.args.context _ _ c.requires.0 c.find_item.ensures c.in_ok-k.was
 
-pub overflow_sub-count-in-At : goal.overflow_sub-count-in-At
-overflow_sub-count-in-At c = omega (arith, found-low _ _ c.args.context _ _ c.requires.0 c.find_item-found.ensures c.in-At.is)
+row : (c : In_ok-k) → NamedRow c.args.rows.now.listing.now c.args.rows.now.table.now (c.args.context.items.first + (c.args.context.items.count - 1 - c.in_ok-k.k))
+row c = items-named _ _ c.requires.0 (c.args.context.items.count - 1 - c.in_ok-k.k) (omega (arith, low c))
 
-pub overflow_add-first : goal.overflow_add-first
-overflow_add-first c = omega (arith, (items-named _ _ c.requires.0 (c.args.context.count - 1 - c.in-At.k) (omega (arith, found-low _ _ c.args.context _ _ c.requires.0 c.find_item-found.ensures c.in-At.is))).holds.room)
+pub returns-in_err-k : goal.returns-in_err-k
+returns-in_err-k c d q = rw (c.from_residual.ensures, type-missing (from_top d) _ (sym (c.find_item.ensures d q ∙ ap (found_in (from_top d)) c.of.ensures) ∙ c.in_err-k.was))
 
-pub item_at-it-requires : goal.item_at-it-requires
-item_at-it-requires c = (items-named _ _ c.requires.0 (c.args.context.count - 1 - c.in-At.k) (omega (arith, found-low _ _ c.args.context _ _ c.requires.0 c.find_item-found.ensures c.in-At.is))).holds
+pub row_at-requires : goal.row_at-requires
+row_at-requires c = low (goal.at.row_at-requires c).In_ok-k
 
-pub returns-in-Missing : goal.returns-in-Missing
-unfolding type_found
-returns-in-Missing c d q = rw (type-missing (from_top d) _ (sym (c.find_item-found.ensures d q) ∙ c.in-Missing.is))
+pub item_at-requires : goal.item_at-requires
+item_at-requires c = rw c.row_at.ensures (row (goal.at.item_at-requires c).In_ok-k).holds
 
-pub returns-in-At : goal.returns-in-At
-unfolding type_found
-returns-in-At c d q = rw ((type-found _ _ q _ (sym (c.find_item-found.ensures d q) ∙ c.in-At.is)).1 c.item_at-it.result c.item_at-it.ensures)
+pub returns : goal.returns
+returns c d q = rw ((type-found _ _ q _ (sym (c.find_item.ensures d q ∙ ap (found_in (from_top d)) c.of.ensures) ∙ c.in_ok-k.was)).1 c.item_at.result (ap (line_in _) (sym c.row_at.ensures) ∙ c.item_at.ensures))

@@ -1,12 +1,12 @@
-use lib.ListN.{length}
-use Rattle.output.proofs.Laws.{room-first, room_next, wrote-next}
+use Rattle.std.proofs.Common.{refl, [], ◌∷◌}
+use Rattle.output.proofs.Laws.{fits-first, fits-next, after-both}
 use Rattle.output.proofs.put_part.Goals as goal
 
-pub put_byte-n-requires : goal.put_byte-n-requires
-put_byte-n-requires c = room-first c.args.s.now (length c.args.s.now) c.requires
+pub put-requires : goal.put-requires
+put-requires g c = fits-first g.S.Sink.laws (44 ∷ []) c.args.s.now refl c.requires
 
-pub put_bytes-requires : goal.put_bytes-requires
-put_bytes-requires c = room_next c.requires c.put_byte-n.ensures
+pub put_all-requires : goal.put_all-requires
+put_all-requires g c = fits-next g.S.Sink.laws (44 ∷ []) c.args.s.now refl c.put.ensures c.requires
 
-pub returns : goal.returns
-returns c = wrote-next c.put_byte-n.ensures c.put_bytes.ensures
+pub returns-clause-text : goal.returns-clause-text
+returns-clause-text g c = after-both g.S.Sink.laws (44 ∷ []) c.args.s.now refl c.put.ensures c.put_all.ensures

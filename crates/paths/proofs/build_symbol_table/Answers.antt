@@ -1,53 +1,44 @@
-use Prim.Native.Nat.{◌+◌, ◌-◌, ◌<◌}
+use Prim.Native.Nat.{◌+◌, ◌-◌}
 use native.Mathlib.Omega.{arith}
-use mathlib.Core.Path.{sym, ◌∙◌}
+use mathlib.Core.Path.{refl, sym, ap, ◌∙◌}
+use Rattle.std.specs.Prelude.{Err}
+use Rattle.std.specs.Option.{is_some}
+use Rattle.rows.specs.Rows.{line_in}
 use Rattle.reader.proofs.Items.{items-end}
 use Rattle.names.proofs.Laws.{items-named, name-inside}
+use Rattle.rules.specs.Table.{params}
+use Rattle.names.specs.Items.{found_in}
 use Rattle.paths.proofs.Build.{build-start, build-done, build-twice, build-more, at_count}
-use Rattle.paths.proofs.build_symbol_table.Goals.{In-Missing}
 use Rattle.paths.proofs.build_symbol_table.Goals as goal
 
--- there is room for one more
-below : (c : In-Missing) → c.loop-k.k < 32
-below c = omega (arith, c.loop-k-test.true, c.requires.1)
-
 pub loop-k-init : goal.loop-k-init
-loop-k-init c = (omega arith, build-start c.args.listing.now c.args.table.now c.args.first c.args.count c.no_items-path.ensures)
-
-pub overflow_add-row : goal.overflow_add-row
-overflow_add-row c = omega (arith, (items-named c.args.listing.now c.args.table.now c.requires.0 (c.args.count - 1 - c.loop-k.k) (omega arith)).holds.room)
+loop-k-init c = rw c.empty-path.ensures (build-start c.args.rows.now.listing.now c.args.rows.now.table.now c.args.items.first c.args.items.count refl)
 
 pub item_at-it-requires : goal.item_at-it-requires
-item_at-it-requires c = (items-named c.args.listing.now c.args.table.now c.requires.0 (c.args.count - 1 - c.loop-k.k) (omega arith)).holds
+item_at-it-requires c = rw c.row_at-row.ensures (items-named c.args.rows.now.listing.now c.args.rows.now.table.now c.requires.0 (c.args.items.count - 1 - c.loop-k.k) (omega arith)).holds
 
-pub find_place-met-requires : goal.find_place-met-requires
-find_place-met-requires c =
+pub of-requires : goal.of-requires
+of-requires c =
     let a = c.args in
-    (name-inside a.listing.now a.table.now c.item_at-it.result (items-named c.args.listing.now c.args.table.now c.requires.0 (c.args.count - 1 - c.loop-k.k) (omega arith)) c.item_at-it.ensures, c.loop-k.invariant.1.sound)
+    name-inside a.rows.now.listing.now a.rows.now.table.now c.item_at-it.result (items-named c.args.rows.now.listing.now c.args.rows.now.table.now c.requires.0 (c.args.items.count - 1 - c.loop-k.k) (omega arith)) (ap (line_in _) (sym c.row_at-row.ensures) ∙ c.item_at-it.ensures)
 
-pub returns-in-At : goal.returns-in-At
-returns-in-At c =
-    let it = c.item_at-it in
-    build-twice c.loop-k.invariant.1 c.loop-k-test.true it.result it.ensures (sym c.in-At.is ∙ c.find_place-met.ensures) c.refuse.ensures
+pub find_place-requires : goal.find_place-requires
+find_place-requires c = c.loop-k.invariant.sound
 
 pub overflow_cast-path : goal.overflow_cast-path
-overflow_cast-path c = let st = c.requires.0 in omega (arith, items-end st.spells, st.within, st.rows.few)
+overflow_cast-path c = let st = c.requires.0 in omega (arith, c.row_at-row.ensures, items-end st.spells, st.within, st.rows.few)
 
-pub offset_bounds-path-k : goal.offset_bounds-path-k
-offset_bounds-path-k c = omega (arith, below c)
+pub returns : goal.returns
+returns c = build-done c.loop-k.invariant c.loop-k-test.false refl
 
-pub bounds-path-k : goal.bounds-path-k
-bounds-path-k c = below c
+pub returns-then-is_some : goal.returns-then-is_some
+returns-then-is_some c =
+    let it = c.item_at-it in
+    build-twice c.loop-k.invariant c.loop-k-test.true it.result (ap (line_in _) (sym c.row_at-row.ensures) ∙ it.ensures) (sym c.if-is_some.true ∙ c.is_some.ensures ∙ ap is_some (c.find_place.ensures ∙ ap (found_in (params _)) c.of.ensures)) (ap Err c.new.ensures)
 
 pub loop-k-preserved : goal.loop-k-preserved
 loop-k-preserved c =
     let l = c.loop-k in
     let it = c.item_at-it in
-    let more = build-more l.invariant.1 c.loop-k-test.true it.result it.ensures (sym c.in-Missing.is ∙ c.find_place-met.ensures) c.requires.1 (items-named c.args.listing.now c.args.table.now c.requires.0 (c.args.count - 1 - l.k) (omega arith)) in
-    (omega arith, at_count l.path (c.args.first + (c.args.count - 1 - l.k)) l.invariant.1.entries more)
-
-pub overflow_add-first : goal.overflow_add-first
-overflow_add-first c = let st = c.requires.0 in omega (arith, items-end st.spells, st.within, st.rows.few)
-
-pub returns : goal.returns
-returns c = build-done c.loop-k.invariant.1 c.loop-k-test.false c.pass.ensures
+    let more = build-more l.invariant c.loop-k-test.true it.result (ap (line_in _) (sym c.row_at-row.ensures) ∙ it.ensures) (sym c.if-is_some.false ∙ c.is_some.ensures ∙ ap is_some (c.find_place.ensures ∙ ap (found_in (params _)) c.of.ensures)) c.requires.1 (items-named c.args.rows.now.listing.now c.args.rows.now.table.now c.requires.0 (c.args.items.count - 1 - l.k) (omega arith)) in
+    rw c.row_at-row.ensures (at_count l.path (c.args.items.first + (c.args.items.count - 1 - l.k)) l.invariant.entries more)

@@ -1,9 +1,5 @@
-use Prim.Native.Nat.{◌-◌, ◌≤◌}
 use Rattle.paths.proofs.Build.{Building}
 use Rattle.paths.proofs.build_symbol_table.Given as goal
 
 abbrev pub invariant-loop-k : goal.invariant-loop-k
-invariant-loop-k l = (l.k ≤ l.count) × Building l.listing l.table l.first l.count l.k l.path
-
-abbrev pub decreases-loop-k : goal.decreases-loop-k
-decreases-loop-k l = l.count - l.k
+invariant-loop-k l = Building l.rows.listing.now l.rows.table.now l.items.first l.items.count l.k l.path

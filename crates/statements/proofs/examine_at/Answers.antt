@@ -1,23 +1,21 @@
-use native.Mathlib.Omega.{arith}
-use mathlib.Core.Path.{sym, ap, ◌∙◌}
-use Rattle.nodes.specs.declared.Answer.TheVariants.{Fault}
-use Rattle.statements.proofs.Walking.{in-range, out_of_range, tried-past, tried}
+use Rattle.std.proofs.Common.{arith, sym, ◌∙◌}
+use Rattle.statements.proofs.Walking.{in-range, out_of_range, tried-err, tried, tried-is, examined-here, examined-past}
 use Rattle.statements.proofs.examine_at.Goals as goal
+
+pub returns-in_err-ensure_branch_in_range : goal.returns-in_err-ensure_branch_in_range
+returns-in_err-ensure_branch_in_range c = λ e j sp.
+    let out = out_of_range _ _ _ (sym c.ensure_branch_in_range.ensures ∙ c.in_err-ensure_branch_in_range.was) in
+    tried-err c.from_residual.ensures.1 (examined-past _ _ c.args.d _ c.requires.2.0 _ _ e out.0 out.1)
+
+pub bounds-walk-p : goal.bounds-walk-p
+bounds-walk-p c = omega (arith, in-range _ _ _ (sym c.ensure_branch_in_range.ensures ∙ c.in_ok-ensure_branch_in_range.was), c.requires.1, c.requires.2.0)
 
 pub examine-requires : goal.examine-requires
 examine-requires c =
-    let pre = c.requires in
-    let within = in-range _ _ _ (sym c.ensure_branch_in_range-in_range.ensures ∙ c.in-Ok.is) in
-    (pre.0, pre.1 within, omega (arith, pre.2, within))
+    let within = in-range _ _ _ (sym c.ensure_branch_in_range.ensures ∙ c.in_ok-ensure_branch_in_range.was) in
+    (c.requires.0, c.requires.2.1 within, omega (arith, within, c.requires.1))
 
-pub returns-in-Err : goal.returns-in-Err
-returns-in-Err c =
-    let a = c.args in
-    let out = out_of_range _ _ _ (sym c.ensure_branch_in_range-in_range.ensures ∙ c.in-Err.is) in
-    λ e j sp. tried-past a.listing.now a.table.now a.d a.branch a.path a.loc e j _ out.0 (ap (λ u. u.answer) c.stop.ensures ∙ ap Fault out.1)
-
-pub returns-in-Ok : goal.returns-in-Ok
-returns-in-Ok c =
-    let a = c.args in
-    let within = in-range _ _ _ (sym c.ensure_branch_in_range-in_range.ensures ∙ c.in-Ok.is) in
-    λ e j sp. tried a.listing.now a.table.now a.d a.branch a.path a.loc e j c.examine.result within c.requires.1 (c.examine.ensures e j sp)
+pub returns : goal.returns
+returns c = λ e j sp.
+    let within = in-range _ _ _ (sym c.ensure_branch_in_range.ensures ∙ c.in_ok-ensure_branch_in_range.was) in
+    tried-is (examined-here _ _ c.args.d _ c.requires.2.0 _ _ e within) (tried c.args.walk.now c.requires.2 _ within (c.examine.ensures e j sp))

@@ -1,21 +1,19 @@
 use mathlib.Core.Path.{sym, ap₂, ◌∙◌}
 use Rattle.ast.specs.Tree.{same}
-use Rattle.names.proofs.Laws.{name-inside, item-is}
+use Rattle.names.proofs.Laws.{item-is, name-inside}
 use Rattle.transfer.proofs.same_item.Goals as goal
 
-pub same_name-requires : goal.same_name-requires
-same_name-requires c =
-    let s = c.args.listing.now in
-    let t = c.args.table.now in
-    let first = c.item_at-a in
-    let second = c.item_at-b in
-    (name-inside s t first.result c.requires.0 first.ensures, name-inside s t second.result c.requires.1 second.ensures)
+pub of-requires : goal.of-requires
+of-requires c = name-inside _ _ c.item_at-a.result c.requires.0 c.item_at-a.ensures
+
+pub of-requires-2 : goal.of-requires-2
+of-requires-2 c = name-inside _ _ c.item_at-b.result c.requires.1 c.item_at-b.ensures
 
 pub returns : goal.returns
 returns c =
     let a = c.args in
-    let s = a.listing.now in
-    let t = a.table.now in
+    let s = a.rows.now.listing.now in
+    let t = a.rows.now.table.now in
     let first = c.item_at-a in
     let second = c.item_at-b in
-    c.same_name.ensures ∙ sym (ap₂ (λ m n. same m.identifier n.identifier) (item-is s t a.p.row first.result first.ensures) (item-is s t a.q.row second.result second.ensures))
+    c.same_name.ensures ∙ ap₂ same c.of.ensures c.of-2.ensures ∙ sym (ap₂ (λ m n. same m.identifier n.identifier) (item-is s t a.p.row first.result first.ensures) (item-is s t a.q.row second.result second.ensures))

@@ -1,4 +1,3 @@
-use Prim.Native.Nat.{◌-◌, ◌≤◌}
 use mathlib.Core.Bool.{true}
 use mathlib.Core.Path.{◌≡◌}
 use lib.ListN.{take}
@@ -7,7 +6,4 @@ use Rattle.paths.specs.Path.{table_of}
 use Rattle.transfer.proofs.shares_prefix.Given as goal
 
 abbrev pub invariant-loop-k : goal.invariant-loop-k
-invariant-loop-k l = (l.k ≤ l.run) × (l.run ≤ l.to.count) × (placed (take l.k (table_of l.listing l.table l.from)) (table_of l.listing l.table l.to) ≡ true)
-
-abbrev pub decreases-loop-k : goal.decreases-loop-k
-decreases-loop-k l = l.run - l.k
+invariant-loop-k l = placed (take l.k (table_of l.rows.listing.now l.rows.table.now l.from)) (table_of l.rows.listing.now l.rows.table.now l.to) ≡ true

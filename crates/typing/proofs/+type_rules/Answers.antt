@@ -1,8 +1,12 @@
 -- The five type rules and their operands meet their contracts. The measure of each pairs the rows that are left with the rank of the rule:
 -- a rule goes to a row below, or on the same row to a rule of lower rank.
 use native.Mathlib.Omega.{arith}
+use mathlib.Core.Logic.{inl, inr}
 use mathlib.Core.Path.{refl, sym, ap, ◌∙◌}
-use borrow.Enum.Refused.{opened}
+use Rattle.std.proofs.Common.{Err}
+use Rattle.std.proofs.lemmas.Grind.{common_steps}
+use Rattle.std.proofs.lemmas.Result.{err_from_is_err_and}
+use Rattle.std.proofs.Common.{rules}
 use Rattle.ast.specs.declared.Type.TheVariants.{Number, Boolean}
 use Rattle.ast.specs.declared.ErrorKind.TheVariants.{InvalidOperation}
 use Rattle.ast.specs.Tree.{from_top}
@@ -13,75 +17,45 @@ use Rattle.listing.specs.Kinds.{part_of}
 use Rattle.nodes.specs.Stands.{walked}
 use Rattle.nodes.proofs.Laws.{expression-is, expression-holds, row-part}
 use Rattle.rules.specs.Result.{both, refused}
-use Rattle.rules.specs.Types.{ascii, factor, unary, string, number, truth, hashed, general}
-use Rattle.operands.specs.Typed.{rule_of, wants, compare_two}
+use Rattle.rules.specs.Types.{is_string, is_number, is_boolean, not_signature, ascii, factor, unary, string, number, truth, hashed, general}
+use Rattle.operands.specs.Typed.{rule_of, compare_two}
 use Rattle.operands.proofs.Laws.{row_low, operand, operands, left-under, right-under, two-fault, two-pass, turn, leaf, by-operand, by_two}
 use Rattle.nodes.proofs.Others.{others}
 use Rattle.typing.proofs.Compare.{compare-unknown, compare-sorted}
 use Rattle.typing.proofs.Others.{Refuses, ByGeneral, refused-here, not-strings, string-refuses, not-numbers, number-refuses, not-truths, truth-refuses, no-hashes, hashed-general}
 use Rattle.typing.proofs.+type_rules.Goals as goal
 
-pub check_both-check_operand-left-requires : goal.check_both-check_operand-left-requires
-check_both-check_operand-left-requires t c = let a = c.requires in (omega (arith), left-under a)
-
-pub check_both-returns-in_default : goal.check_both-returns-in_default
-check_both-returns-in_default t c = two-fault _ _ _ _ _ (rule_of c.args.ty) (rule_of c.args.ty) _ c.in_default.is c.check_operand-left.ensures
-
 pub check_both-check_operand-requires : goal.check_both-check_operand-requires
-check_both-check_operand-requires t c =
+check_both-check_operand-requires t c = let a = c.requires in (omega (arith), left-under a)
+
+pub check_both-returns-in_err-n : goal.check_both-returns-in_err-n
+check_both-returns-in_err-n t c =
+    let p = err_from_is_err_and c.from_residual.result c.from_residual.ensures.1 in
+    rw (p.1, p.2, ← c.in_err-n.was) (two-fault _ _ _ _ _ (rule_of c.args.ty) (rule_of c.args.ty) _ c.in_err-n.was c.check_operand.ensures)
+
+pub check_both-check_operand-requires-2 : goal.check_both-check_operand-requires-2
+check_both-check_operand-requires-2 t c =
     let a = c.requires in
-    let n = right-under _ _ _ _ _ (rule_of c.args.ty) _ c.in-Pass.is c.check_operand-left.ensures a in
+    let n = right-under _ _ _ _ _ (rule_of c.args.ty) _ c.in_ok-n.was c.check_operand.ensures a in
     (omega (arith, n.1), n.0)
 
 pub check_both-returns : goal.check_both-returns
-check_both-returns t c = two-pass _ _ _ _ _ (rule_of c.args.ty) _ c.in-Pass.is c.check_operand-left.ensures (rule_of c.args.ty) _ c.check_operand.ensures
+check_both-returns t c = two-pass _ _ _ _ _ (rule_of c.args.ty) _ c.in_ok-n.was c.check_operand.ensures (rule_of c.args.ty) _ c.check_operand-2.ensures
 
-pub check_compare-sort_at-sort-requires : goal.check_compare-sort_at-sort-requires
-check_compare-sort_at-sort-requires t c = left-under c.requires
+pub check_compare-sort_at-requires : goal.check_compare-sort_at-requires
+check_compare-sort_at-requires t c = left-under c.requires
 
-pub check_compare-check_both-both-requires : goal.check_compare-check_both-both-requires
-check_compare-check_both-both-requires t c = let a = c.requires in (omega (arith), a)
+pub check_compare-returns-in-None : goal.check_compare-returns-in-None
+check_compare-returns-in-None t c e j d v q = rw (← compare-unknown _ _ e _ (from_top d) (sym (c.in-None.ensures e.left v.mid d v.first q))) (ap Err c.new.ensures)
 
-pub check_compare-returns-in-Unknown : goal.check_compare-returns-in-Unknown
-unfolding walked
-check_compare-returns-in-Unknown t c e j d v q = rw (← compare-unknown _ _ e _ (from_top d) (sym (c.sort_at-sort.ensures e.left v.mid d v.first q) ∙ c.in-Unknown.is)) c.refuse.ensures
-
-pub check_compare-returns-in-Of : goal.check_compare-returns-in-Of
-check_compare-returns-in-Of t c e j d v q =
+pub check_compare-returns-in-Some : goal.check_compare-returns-in-Some
+check_compare-returns-in-Some t c e j d v q =
     let a = c.args in
-    let ty = c.in-Of.ty in
-    rw (← compare-sorted a.loc a.op e a.context.target (from_top d) ty (sym (c.sort_at-sort.ensures e.left v.mid d v.first q) ∙ c.in-Of.is)) (c.judge_compare.ensures _ j (c.check_both-both.ensures e j d v q))
+    let ty = c.in-Some.ty in
+    rw (← compare-sorted a.loc a.op e a.context.target (from_top d) ty (sym (c.in-Some.ensures e.left v.mid d v.first q))) (c.judge_compare.ensures _ j (c.check_both.ensures e j d v q))
 
-pub check_operand-check_type_boolean-requires : goal.check_operand-check_type_boolean-requires
-check_operand-check_type_boolean-requires t c = let a = c.requires in (omega (arith), a)
-
-pub check_operand-check_type_numeric-requires : goal.check_operand-check_type_numeric-requires
-check_operand-check_type_numeric-requires t c = let a = c.requires in (omega (arith), a)
-
-pub check_operand-check_type_string-requires : goal.check_operand-check_type_string-requires
-check_operand-check_type_string-requires t c = let a = c.requires in (omega (arith), a)
-
-pub check_operand-check_type_boolean-requires-in-Boolean : goal.check_operand-check_type_boolean-requires-in-Boolean
-check_operand-check_type_boolean-requires-in-Boolean t c = let a = c.requires in (omega (arith), a)
-
-pub check_operand-returns-in-Signature : goal.check_operand-returns-in-Signature
-unfolding rule_of
-check_operand-returns-in-Signature t c e j d sp q = rw c.in-Signature.is (c.check_type_boolean.ensures e j d sp q)
-
-pub check_operand-returns-in-Number : goal.check_operand-returns-in-Number
-unfolding rule_of
-check_operand-returns-in-Number t c e j d sp q = rw c.in-Number.is (c.check_type_numeric.ensures e j d sp q)
-
-pub check_operand-returns-in-String : goal.check_operand-returns-in-String
-unfolding rule_of
-check_operand-returns-in-String t c e j d sp q = rw c.in-String.is (c.check_type_string.ensures e j d sp q)
-
-pub check_operand-returns-in-Boolean : goal.check_operand-returns-in-Boolean
-unfolding rule_of
-check_operand-returns-in-Boolean t c e j d sp q = rw c.in-Boolean.is (c.check_type_boolean-in-Boolean.ensures e j d sp q)
-
-pub check_type-expression_at-line-requires : goal.check_type-expression_at-line-requires
-check_type-expression_at-line-requires t c = expression-holds c.requires.node
+pub check_type-expression_at-requires : goal.check_type-expression_at-requires
+check_type-expression_at-requires t c = expression-holds c.requires.node
 
 pub check_type-overflow_add-next : goal.check_type-overflow_add-next
 check_type-overflow_add-next t c = omega (arith, row_low c.requires)
@@ -89,323 +63,290 @@ check_type-overflow_add-next t c = omega (arith, row_low c.requires)
 pub check_type-check_both-requires : goal.check_type-check_both-requires
 check_type-check_both-requires t c =
     let a = c.requires in
-    let f = expression-is a.node.spells (c.expression_at-line.ensures ∙ ap Line.Expression c.in-LogicalExpression.is) in
+    let f = expression-is a.node.spells c.in-LogicalExpression.ensures in
     (omega (arith, row_low a), operands a f.3 f.4)
 
 pub check_type-check_compare-requires : goal.check_type-check_compare-requires
 check_type-check_compare-requires t c =
     let a = c.requires in
-    let f = expression-is a.node.spells (c.expression_at-line.ensures ∙ ap Line.Expression c.in-CompareExpression.is) in
+    let f = expression-is a.node.spells c.in-CompareExpression.ensures in
     (omega (arith, row_low a), operands a f.3 f.4)
 
 pub check_type-check_both-requires-in-BinaryMathExpression : goal.check_type-check_both-requires-in-BinaryMathExpression
 check_type-check_both-requires-in-BinaryMathExpression t c =
     let a = c.requires in
-    let f = expression-is a.node.spells (c.expression_at-line.ensures ∙ ap Line.Expression c.in-BinaryMathExpression.is) in
+    let f = expression-is a.node.spells c.in-BinaryMathExpression.ensures in
     (omega (arith, row_low a), operands a f.3 f.4)
 
 pub check_type-check_type_boolean-requires : goal.check_type-check_type_boolean-requires
 check_type-check_type_boolean-requires t c =
     let a = c.requires in
-    (omega (arith, row_low a), operand (SpellsExpression _ _) a (expression-is a.node.spells (c.expression_at-line.ensures ∙ ap Line.Expression c.in-UnaryMathExpression.is)).1)
+    (omega (arith, row_low a), operand (SpellsExpression _ _) a (expression-is a.node.spells c.in-UnaryMathExpression.ensures).1)
 
 pub check_type-returns-then-is_not : goal.check_type-returns-then-is_not
 unfolding general unary
-check_type-returns-then-is_not t c e j d sp q = by-operand _ _ _ _ _ d _ q (λ e. general e c.args.context.target (from_top d)) (SpellsExpression _ _) truth (expression-is sp (c.expression_at-line.ensures ∙ ap Line.Expression c.in-UnaryMathExpression.is)) c.check_type_boolean.ensures (λ a. rw (sym c.is_not.ensures ∙ c.if-is_not.true))
+check_type-returns-then-is_not t c e j d sp q = by-operand _ _ _ _ _ d _ q (λ e. general e c.args.context.target (from_top d)) (SpellsExpression _ _) truth (expression-is sp c.in-UnaryMathExpression.ensures) c.check_type_boolean.ensures (λ a. rw (sym c.is_not.ensures ∙ c.if-is_not.true))
 
 pub check_type-check_type_numeric-requires : goal.check_type-check_type_numeric-requires
 check_type-check_type_numeric-requires t c =
     let a = c.requires in
-    (omega (arith, row_low a), operand (SpellsExpression _ _) a (expression-is a.node.spells (c.expression_at-line.ensures ∙ ap Line.Expression c.in-UnaryMathExpression.is)).1)
+    (omega (arith, row_low a), operand (SpellsExpression _ _) a (expression-is a.node.spells c.in-UnaryMathExpression.ensures).1)
 
 pub check_type-check_type_crypto_operand-requires : goal.check_type-check_type_crypto_operand-requires
 check_type-check_type_crypto_operand-requires t c =
     let a = c.requires in
-    (omega (arith, row_low a), operand (SpellsExpression _ _) a (expression-is a.node.spells (c.expression_at-line.ensures ∙ ap Line.Expression c.in-UnaryCryptoExpression.is)).1)
+    (omega (arith, row_low a), operand (SpellsExpression _ _) a (expression-is a.node.spells c.in-UnaryCryptoExpression.ensures).1)
 
 pub check_type-check_type_string-operand-requires : goal.check_type-check_type_string-operand-requires
 check_type-check_type_string-operand-requires t c =
     let a = c.requires in
-    (omega (arith, row_low a), operand (SpellsExpression _ _) a (expression-is a.node.spells (c.expression_at-line.ensures ∙ ap Line.Expression c.in-ByteExpression.is)).1)
+    (omega (arith, row_low a), operand (SpellsExpression _ _) a (expression-is a.node.spells c.in-ByteExpression.ensures).1)
 
 pub check_type-check_ascii-requires : goal.check_type-check_ascii-requires
 check_type-check_ascii-requires t c =
     let a = c.requires in
-    (operand (SpellsExpression _ _) a (expression-is a.node.spells (c.expression_at-line.ensures ∙ ap Line.Expression c.in-ByteExpression.is)).1).node
+    (operand (SpellsExpression _ _) a (expression-is a.node.spells c.in-ByteExpression.ensures).1).node
 
 pub check_type-check_factor-requires : goal.check_type-check_factor-requires
 check_type-check_factor-requires t c =
     let a = c.requires in
-    operand (SpellsFactor _ _) a (expression-is a.node.spells (c.expression_at-line.ensures ∙ ap Line.Expression c.in-CheckSigExpression.is)).1
+    operand (SpellsFactor _ _) a (expression-is a.node.spells c.in-CheckSigExpression.ensures).1
 
 pub check_type-returns-in-Variable : goal.check_type-returns-in-Variable
-unfolding general walked
-check_type-returns-in-Variable t c e j d sp q =
-    let f = expression-is sp (c.expression_at-line.ensures ∙ ap Line.Expression c.in-Variable.is) in
-    leaf (λ e. general e c.args.context.target (from_top d)) f.0 f.1 refl
-
-pub check_type-returns-in-NumberLiteral : goal.check_type-returns-in-NumberLiteral
-unfolding general walked
-check_type-returns-in-NumberLiteral t c e j d sp q =
-    let f = expression-is sp (c.expression_at-line.ensures ∙ ap Line.Expression c.in-NumberLiteral.is) in
-    leaf (λ e. general e c.args.context.target (from_top d)) f.0 f.1 refl
-
-pub check_type-returns-in-BooleanLiteral : goal.check_type-returns-in-BooleanLiteral
-unfolding general walked
-check_type-returns-in-BooleanLiteral t c e j d sp q =
-    let f = expression-is sp (c.expression_at-line.ensures ∙ ap Line.Expression c.in-BooleanLiteral.is) in
-    leaf (λ e. general e c.args.context.target (from_top d)) f.0 f.1 refl
-
-pub check_type-returns-in-StringLiteral : goal.check_type-returns-in-StringLiteral
-unfolding general walked
-check_type-returns-in-StringLiteral t c e j d sp q =
-    let f = expression-is sp (c.expression_at-line.ensures ∙ ap Line.Expression c.in-StringLiteral.is) in
-    leaf (λ e. general e c.args.context.target (from_top d)) f.0 f.1 refl
+unfolding general
+check_type-returns-in-Variable t c e j d sp q = elim c.in-Variable.is [
+  | inl (l, x, h) ↦ let f = expression-is sp (c.expression_at.ensures ∙ ap Line.Expression h) in leaf (λ e. general e c.args.context.target (from_top d)) f.0 f.1 refl
+  | inr (inl (l, v, h)) ↦ let f = expression-is sp (c.expression_at.ensures ∙ ap Line.Expression h) in leaf (λ e. general e c.args.context.target (from_top d)) f.0 f.1 refl
+  | inr (inr (inl (l, v, h))) ↦ let f = expression-is sp (c.expression_at.ensures ∙ ap Line.Expression h) in leaf (λ e. general e c.args.context.target (from_top d)) f.0 f.1 refl
+  | inr (inr (inr (l, x, m, h))) ↦ let f = expression-is sp (c.expression_at.ensures ∙ ap Line.Expression h) in leaf (λ e. general e c.args.context.target (from_top d)) f.0 f.1 refl
+]
 
 pub check_type-returns-in-LogicalExpression : goal.check_type-returns-in-LogicalExpression
 unfolding general rule_of
-check_type-returns-in-LogicalExpression t c e j d sp q = by_two _ _ _ _ _ d _ q (λ e. general e c.args.context.target (from_top d)) (λ e g ps. both (rule_of Boolean e.left g ps) (rule_of Boolean e.right g ps)) (expression-is sp (c.expression_at-line.ensures ∙ ap Line.Expression c.in-LogicalExpression.is)) c.check_both.ensures (λ a b. refl)
+check_type-returns-in-LogicalExpression t c e j d sp q = by_two _ _ _ _ _ d _ q (λ e. general e c.args.context.target (from_top d)) (λ e g ps. both (rule_of Boolean e.left g ps) (rule_of Boolean e.right g ps)) (expression-is sp c.in-LogicalExpression.ensures) c.check_both.ensures (λ a b. refl)
 
 pub check_type-returns-in-CompareExpression : goal.check_type-returns-in-CompareExpression
 unfolding general compare_two
-check_type-returns-in-CompareExpression t c e j d sp q = by_two _ _ _ _ _ d _ q (λ e. general e c.args.context.target (from_top d)) (compare_two c.in-CompareExpression.l c.in-CompareExpression.op) (expression-is sp (c.expression_at-line.ensures ∙ ap Line.Expression c.in-CompareExpression.is)) c.check_compare.ensures (λ a b. refl)
+check_type-returns-in-CompareExpression t c e j d sp q = by_two _ _ _ _ _ d _ q (λ e. general e c.args.context.target (from_top d)) (compare_two c.in-CompareExpression.l c.in-CompareExpression.op) (expression-is sp c.in-CompareExpression.ensures) c.check_compare.ensures (λ a b. refl)
 
 pub check_type-returns-in-BinaryMathExpression : goal.check_type-returns-in-BinaryMathExpression
 unfolding general rule_of
-check_type-returns-in-BinaryMathExpression t c e j d sp q = by_two _ _ _ _ _ d _ q (λ e. general e c.args.context.target (from_top d)) (λ e g ps. both (rule_of Number e.left g ps) (rule_of Number e.right g ps)) (expression-is sp (c.expression_at-line.ensures ∙ ap Line.Expression c.in-BinaryMathExpression.is)) c.check_both-in-BinaryMathExpression.ensures (λ a b. refl)
+check_type-returns-in-BinaryMathExpression t c e j d sp q = by_two _ _ _ _ _ d _ q (λ e. general e c.args.context.target (from_top d)) (λ e g ps. both (rule_of Number e.left g ps) (rule_of Number e.right g ps)) (expression-is sp c.in-BinaryMathExpression.ensures) c.check_both-in-BinaryMathExpression.ensures (λ a b. refl)
 
 pub check_type-returns-else-is_not : goal.check_type-returns-else-is_not
 unfolding general unary
-check_type-returns-else-is_not t c e j d sp q = by-operand _ _ _ _ _ d _ q (λ e. general e c.args.context.target (from_top d)) (SpellsExpression _ _) number (expression-is sp (c.expression_at-line.ensures ∙ ap Line.Expression c.in-UnaryMathExpression.is)) c.check_type_numeric.ensures (λ a. rw (sym c.is_not.ensures ∙ c.if-is_not.false))
+check_type-returns-else-is_not t c e j d sp q = by-operand _ _ _ _ _ d _ q (λ e. general e c.args.context.target (from_top d)) (SpellsExpression _ _) number (expression-is sp c.in-UnaryMathExpression.ensures) c.check_type_numeric.ensures (λ a. rw (sym c.is_not.ensures ∙ c.if-is_not.false))
 
 pub check_type-returns-in-UnaryCryptoExpression : goal.check_type-returns-in-UnaryCryptoExpression
 unfolding general
-check_type-returns-in-UnaryCryptoExpression t c e j d sp q = by-operand _ _ _ _ _ d _ q (λ e. general e c.args.context.target (from_top d)) (SpellsExpression _ _) hashed (expression-is sp (c.expression_at-line.ensures ∙ ap Line.Expression c.in-UnaryCryptoExpression.is)) c.check_type_crypto_operand.ensures (λ a. refl)
+check_type-returns-in-UnaryCryptoExpression t c e j d sp q = by-operand _ _ _ _ _ d _ q (λ e. general e c.args.context.target (from_top d)) (SpellsExpression _ _) hashed (expression-is sp c.in-UnaryCryptoExpression.ensures) c.check_type_crypto_operand.ensures (λ a. refl)
 
 pub check_type-returns-in-ByteExpression : goal.check_type-returns-in-ByteExpression
 unfolding general
-check_type-returns-in-ByteExpression t c e j d sp q = by-operand _ _ _ _ _ d _ q (λ e. general e c.args.context.target (from_top d)) (SpellsExpression _ _) (λ a g ps. both (string a g ps) (ascii a)) (expression-is sp (c.expression_at-line.ensures ∙ ap Line.Expression c.in-ByteExpression.is)) (λ b k x u v. c.check_ascii.ensures b k (string b c.args.context.target (from_top x)) u (c.check_type_string-operand.ensures b k x u v)) (λ a. refl)
+check_type-returns-in-ByteExpression t c e j d sp q = by-operand _ _ _ _ _ d _ q (λ e. general e c.args.context.target (from_top d)) (SpellsExpression _ _) (λ a g ps. both (string a g ps) (ascii a)) (expression-is sp c.in-ByteExpression.ensures) (λ b k x u v. c.check_ascii.ensures b k (string b c.args.context.target (from_top x)) u (c.check_type_string-operand.ensures b k x u v)) (λ a. refl)
 
 pub check_type-returns-in-CheckSigExpression : goal.check_type-returns-in-CheckSigExpression
 unfolding general
-check_type-returns-in-CheckSigExpression t c e j d sp q = by-operand _ _ _ _ _ d _ q (λ e. general e c.args.context.target (from_top d)) (SpellsFactor _ _) (λ f g ps. factor g ps f) (expression-is sp (c.expression_at-line.ensures ∙ ap Line.Expression c.in-CheckSigExpression.is)) c.check_factor.ensures (λ a. refl)
+check_type-returns-in-CheckSigExpression t c e j d sp q = by-operand _ _ _ _ _ d _ q (λ e. general e c.args.context.target (from_top d)) (SpellsFactor _ _) (λ f g ps. factor g ps f) (expression-is sp c.in-CheckSigExpression.ensures) c.check_factor.ensures (λ a. refl)
 
-pub check_type_boolean-expression_at-line-requires : goal.check_type_boolean-expression_at-line-requires
-check_type_boolean-expression_at-line-requires t c = expression-holds c.requires.node
+pub check_type_boolean-expression_at-requires : goal.check_type_boolean-expression_at-requires
+check_type_boolean-expression_at-requires t c = expression-holds c.requires.node
 
 pub check_type_boolean-overflow_add-next : goal.check_type_boolean-overflow_add-next
 check_type_boolean-overflow_add-next t c = omega (arith, row_low c.requires)
 
-pub check_type_boolean-check_variable_type-requires : goal.check_type_boolean-check_variable_type-requires
+pub check_type_boolean-check_variable_type-requires-clause-stands : goal.check_type_boolean-check_variable_type-requires-clause-stands
 unfolding part_of
-check_type_boolean-check_variable_type-requires t c =
+check_type_boolean-check_variable_type-requires-clause-stands t c =
     let a = c.requires in
-    let n = c.expression_at-line.ensures ∙ ap Line.Expression c.in-Variable.is in
+    let n = c.in-Variable.ensures in
     (a.items, row-part a.node (expression-on _ _ a.node.spells) _ n _ refl)
 
 pub check_type_boolean-check_both-requires : goal.check_type_boolean-check_both-requires
 check_type_boolean-check_both-requires t c =
     let a = c.requires in
-    let f = expression-is a.node.spells (c.expression_at-line.ensures ∙ ap Line.Expression c.in-LogicalExpression.is) in
+    let f = expression-is a.node.spells c.in-LogicalExpression.ensures in
     (omega (arith, row_low a), operands a f.3 f.4)
-
-pub check_type_boolean-check_type-requires : goal.check_type_boolean-check_type-requires
-check_type_boolean-check_type-requires t c = let a = c.requires in (omega (arith), a)
-
-pub check_type_boolean-check_type-requires-in-CheckSigExpression : goal.check_type_boolean-check_type-requires-in-CheckSigExpression
-check_type_boolean-check_type-requires-in-CheckSigExpression t c = let a = c.requires in (omega (arith), a)
 
 pub check_type_boolean-check_type_boolean-requires : goal.check_type_boolean-check_type_boolean-requires
 check_type_boolean-check_type_boolean-requires t c =
     let a = c.requires in
-    (omega (arith, row_low a), operand (SpellsExpression _ _) a (expression-is a.node.spells (c.expression_at-line.ensures ∙ ap Line.Expression c.in-UnaryMathExpression.is)).1)
+    (omega (arith, row_low a), operand (SpellsExpression _ _) a (expression-is a.node.spells c.in-UnaryMathExpression.ensures).1)
 
 pub check_type_boolean-returns-then-is_not : goal.check_type_boolean-returns-then-is_not
 unfolding truth unary
-check_type_boolean-returns-then-is_not t c e j d sp q = by-operand _ _ _ _ _ d _ q (λ e. truth e c.args.context.target (from_top d)) (SpellsExpression _ _) truth (expression-is sp (c.expression_at-line.ensures ∙ ap Line.Expression c.in-UnaryMathExpression.is)) c.check_type_boolean.ensures (λ a. rw (sym c.is_not.ensures ∙ c.if-is_not.true))
-
-pub check_type_boolean-check_type_numeric-requires : goal.check_type_boolean-check_type_numeric-requires
-check_type_boolean-check_type_numeric-requires t c = let a = c.requires in (omega (arith), a)
-
-pub check_type_boolean-check_type_numeric-requires-in-BinaryMathExpression : goal.check_type_boolean-check_type_numeric-requires-in-BinaryMathExpression
-check_type_boolean-check_type_numeric-requires-in-BinaryMathExpression t c = let a = c.requires in (omega (arith), a)
-
-pub check_type_boolean-check_type_numeric-requires-in-ByteExpression : goal.check_type_boolean-check_type_numeric-requires-in-ByteExpression
-check_type_boolean-check_type_numeric-requires-in-ByteExpression t c = let a = c.requires in (omega (arith), a)
+check_type_boolean-returns-then-is_not t c e j d sp q = by-operand _ _ _ _ _ d _ q (λ e. truth e c.args.context.target (from_top d)) (SpellsExpression _ _) truth (expression-is sp c.in-UnaryMathExpression.ensures) c.check_type_boolean.ensures (λ a. rw (sym c.is_not.ensures ∙ c.if-is_not.true))
 
 pub check_type_boolean-loc_at-requires : goal.check_type_boolean-loc_at-requires
 check_type_boolean-loc_at-requires t c = (expression-holds c.requires.node).room
 
 pub check_type_boolean-returns-in-Variable : goal.check_type_boolean-returns-in-Variable
-unfolding truth wants
+unfolding truth is_boolean
 check_type_boolean-returns-in-Variable t c e j d sp q =
-    let f = expression-is sp (c.expression_at-line.ensures ∙ ap Line.Expression c.in-Variable.is) in
-    leaf (λ e. truth e c.args.context.target (from_top d)) f.0 f.1 (c.check_variable_type.ensures d q)
+    let f = expression-is sp c.in-Variable.ensures in
+    leaf (λ e. truth e c.args.context.target (from_top d)) f.0 f.1 (c.check_variable_type.ensures d is_boolean q (λ ty b h. grind (arith, common_steps)))
 
 pub check_type_boolean-returns-in-BooleanLiteral : goal.check_type_boolean-returns-in-BooleanLiteral
-unfolding truth walked
+unfolding truth
 check_type_boolean-returns-in-BooleanLiteral t c e j d sp q =
-    let f = expression-is sp (c.expression_at-line.ensures ∙ ap Line.Expression c.in-BooleanLiteral.is) in
+    let f = expression-is sp c.in-BooleanLiteral.ensures in
     leaf (λ e. truth e c.args.context.target (from_top d)) f.0 f.1 refl
 
 pub check_type_boolean-returns-in-LogicalExpression : goal.check_type_boolean-returns-in-LogicalExpression
 unfolding truth rule_of
-check_type_boolean-returns-in-LogicalExpression t c e j d sp q = by_two _ _ _ _ _ d _ q (λ e. truth e c.args.context.target (from_top d)) (λ e g ps. both (rule_of Boolean e.left g ps) (rule_of Boolean e.right g ps)) (expression-is sp (c.expression_at-line.ensures ∙ ap Line.Expression c.in-LogicalExpression.is)) c.check_both.ensures (λ a b. refl)
+check_type_boolean-returns-in-LogicalExpression t c e j d sp q = by_two _ _ _ _ _ d _ q (λ e. truth e c.args.context.target (from_top d)) (λ e g ps. both (rule_of Boolean e.left g ps) (rule_of Boolean e.right g ps)) (expression-is sp c.in-LogicalExpression.ensures) c.check_both.ensures (λ a b. refl)
 
 pub check_type_boolean-returns-in-CompareExpression : goal.check_type_boolean-returns-in-CompareExpression
 unfolding truth general
-check_type_boolean-returns-in-CompareExpression t c e j d sp q = turn (λ e. general e c.args.context.target (from_top d)) (λ e. truth e c.args.context.target (from_top d)) j (expression-is sp (c.expression_at-line.ensures ∙ ap Line.Expression c.in-CompareExpression.is)).5 refl (c.check_type.ensures e j d sp q)
-
-pub check_type_boolean-returns-in-CheckSigExpression : goal.check_type_boolean-returns-in-CheckSigExpression
-unfolding truth general
-check_type_boolean-returns-in-CheckSigExpression t c e j d sp q = turn (λ e. general e c.args.context.target (from_top d)) (λ e. truth e c.args.context.target (from_top d)) j (expression-is sp (c.expression_at-line.ensures ∙ ap Line.Expression c.in-CheckSigExpression.is)).2 refl (c.check_type-in-CheckSigExpression.ensures e j d sp q)
+check_type_boolean-returns-in-CompareExpression t c e j d sp q =
+    let g = c.args.context.target in
+    elim c.in-CompareExpression.is [
+      | inl (l, o, h) ↦ turn (λ e. general e g (from_top d)) (λ e. truth e g (from_top d)) j (expression-is sp (c.expression_at.ensures ∙ ap Line.Expression h)).5 refl (c.check_type.ensures e j d sp q)
+      | inr (l, h) ↦ turn (λ e. general e g (from_top d)) (λ e. truth e g (from_top d)) j (expression-is sp (c.expression_at.ensures ∙ ap Line.Expression h)).2 refl (c.check_type.ensures e j d sp q)
+    ]
 
 pub check_type_boolean-returns-else-is_not : goal.check_type_boolean-returns-else-is_not
 unfolding truth number unary
-check_type_boolean-returns-else-is_not t c e j d sp q = turn (λ e. both (number e c.args.context.target (from_top d)) (refused InvalidOperation c.in-UnaryMathExpression.l)) (λ e. truth e c.args.context.target (from_top d)) j (expression-is sp (c.expression_at-line.ensures ∙ ap Line.Expression c.in-UnaryMathExpression.is)).2 (rw (sym c.is_not.ensures ∙ c.if-is_not.false)) (c.then_refuse.ensures (number e c.args.context.target (from_top d)) j j (c.check_type_numeric.ensures e j d sp q))
+check_type_boolean-returns-else-is_not t c e j d sp q = turn (λ e. both (number e c.args.context.target (from_top d)) (refused InvalidOperation c.in-UnaryMathExpression.l)) (λ e. truth e c.args.context.target (from_top d)) j (expression-is sp c.in-UnaryMathExpression.ensures).2 (rw (sym c.is_not.ensures ∙ c.if-is_not.false)) (c.then_refuse.ensures (number e c.args.context.target (from_top d)) j j (c.check_type_numeric.ensures e j d sp q))
 
 pub check_type_boolean-returns-in-BinaryMathExpression : goal.check_type_boolean-returns-in-BinaryMathExpression
 unfolding truth number unary
-check_type_boolean-returns-in-BinaryMathExpression t c e j d sp q = turn (λ e. both (number e c.args.context.target (from_top d)) (refused InvalidOperation c.in-BinaryMathExpression.l)) (λ e. truth e c.args.context.target (from_top d)) j (expression-is sp (c.expression_at-line.ensures ∙ ap Line.Expression c.in-BinaryMathExpression.is)).5 refl (c.then_refuse-in-BinaryMathExpression.ensures (number e c.args.context.target (from_top d)) j j (c.check_type_numeric-in-BinaryMathExpression.ensures e j d sp q))
-
-pub check_type_boolean-returns-in-ByteExpression : goal.check_type_boolean-returns-in-ByteExpression
-unfolding truth number unary
-check_type_boolean-returns-in-ByteExpression t c e j d sp q = turn (λ e. both (number e c.args.context.target (from_top d)) (refused InvalidOperation c.in-ByteExpression.l)) (λ e. truth e c.args.context.target (from_top d)) j (expression-is sp (c.expression_at-line.ensures ∙ ap Line.Expression c.in-ByteExpression.is)).2 refl (c.then_refuse-in-ByteExpression.ensures (number e c.args.context.target (from_top d)) j j (c.check_type_numeric-in-ByteExpression.ensures e j d sp q))
+check_type_boolean-returns-in-BinaryMathExpression t c e j d sp q =
+    let g = c.args.context.target in
+    let k = c.then_refuse-in-BinaryMathExpression.ensures (number e g (from_top d)) j j (c.check_type_numeric-in-BinaryMathExpression.ensures e j d sp q) in
+    elim c.in-BinaryMathExpression.is [
+      | inl (o, h) ↦ turn (λ e. both (number e g (from_top d)) (refused InvalidOperation c.in-BinaryMathExpression.l)) (λ e. truth e g (from_top d)) j (expression-is sp (c.expression_at.ensures ∙ ap Line.Expression h)).5 refl k
+      | inr h ↦ turn (λ e. both (number e g (from_top d)) (refused InvalidOperation c.in-BinaryMathExpression.l)) (λ e. truth e g (from_top d)) j (expression-is sp (c.expression_at.ensures ∙ ap Line.Expression h)).2 refl k
+    ]
 
 pub check_type_boolean-returns-in_default : goal.check_type_boolean-returns-in_default
-check_type_boolean-returns-in_default t c e j d sp q = refused-here e j (c.loc_at.ensures _ e j sp) c.refuse.ensures (others (Refuses truth) not-truths truth-refuses _ c.in_default.in_default-own.keys9 sp c.expression_at-line.ensures _ _)
+check_type_boolean-returns-in_default t c e j d sp q = refused-here e j (c.loc_at.ensures _ e j sp) (ap Err c.new.ensures) (others (Refuses truth) not-truths truth-refuses _ (search rules) sp c.expression_at.ensures _ _)
 
-pub check_type_crypto_operand-expression_at-line-requires : goal.check_type_crypto_operand-expression_at-line-requires
-check_type_crypto_operand-expression_at-line-requires t c = expression-holds c.requires.node
+pub check_type_crypto_operand-expression_at-requires : goal.check_type_crypto_operand-expression_at-requires
+check_type_crypto_operand-expression_at-requires t c = expression-holds c.requires.node
 
 pub check_type_crypto_operand-overflow_add-next : goal.check_type_crypto_operand-overflow_add-next
 check_type_crypto_operand-overflow_add-next t c = omega (arith, row_low c.requires)
 
-pub check_type_crypto_operand-check_variable_type-requires : goal.check_type_crypto_operand-check_variable_type-requires
+pub check_type_crypto_operand-check_variable_type-requires-clause-stands : goal.check_type_crypto_operand-check_variable_type-requires-clause-stands
 unfolding part_of
-check_type_crypto_operand-check_variable_type-requires t c =
+check_type_crypto_operand-check_variable_type-requires-clause-stands t c =
     let a = c.requires in
-    let n = c.expression_at-line.ensures ∙ ap Line.Expression c.in-Variable.is in
+    let n = c.in-Variable.ensures in
     (a.items, row-part a.node (expression-on _ _ a.node.spells) _ n _ refl)
 
 pub check_type_crypto_operand-check_type_crypto_operand-requires : goal.check_type_crypto_operand-check_type_crypto_operand-requires
 check_type_crypto_operand-check_type_crypto_operand-requires t c =
     let a = c.requires in
-    (omega (arith, row_low a), operand (SpellsExpression _ _) a (expression-is a.node.spells (c.expression_at-line.ensures ∙ ap Line.Expression c.in-UnaryCryptoExpression.is)).1)
-
-pub check_type_crypto_operand-check_type-requires : goal.check_type_crypto_operand-check_type-requires
-check_type_crypto_operand-check_type-requires t c = let a = c.requires in (omega (arith), a)
+    (omega (arith, row_low a), operand (SpellsExpression _ _) a (expression-is a.node.spells c.in-UnaryCryptoExpression.ensures).1)
 
 pub check_type_crypto_operand-returns-in-Variable : goal.check_type_crypto_operand-returns-in-Variable
-unfolding hashed wants
+unfolding hashed not_signature
 check_type_crypto_operand-returns-in-Variable t c e j d sp q =
-    let f = expression-is sp (c.expression_at-line.ensures ∙ ap Line.Expression c.in-Variable.is) in
-    leaf (λ e. hashed e c.args.context.target (from_top d)) f.0 f.1 (c.check_variable_type.ensures d q)
+    let f = expression-is sp c.in-Variable.ensures in
+    leaf (λ e. hashed e c.args.context.target (from_top d)) f.0 f.1 (c.check_variable_type.ensures d not_signature q (λ ty b h. grind (arith, common_steps)))
 
 pub check_type_crypto_operand-returns-in-UnaryCryptoExpression : goal.check_type_crypto_operand-returns-in-UnaryCryptoExpression
 unfolding hashed
-check_type_crypto_operand-returns-in-UnaryCryptoExpression t c e j d sp q = by-operand _ _ _ _ _ d _ q (λ e. hashed e c.args.context.target (from_top d)) (SpellsExpression _ _) hashed (expression-is sp (c.expression_at-line.ensures ∙ ap Line.Expression c.in-UnaryCryptoExpression.is)) c.check_type_crypto_operand.ensures (λ a. refl)
+check_type_crypto_operand-returns-in-UnaryCryptoExpression t c e j d sp q = by-operand _ _ _ _ _ d _ q (λ e. hashed e c.args.context.target (from_top d)) (SpellsExpression _ _) hashed (expression-is sp c.in-UnaryCryptoExpression.ensures) c.check_type_crypto_operand.ensures (λ a. refl)
 
 pub check_type_crypto_operand-returns-in_default : goal.check_type_crypto_operand-returns-in_default
-check_type_crypto_operand-returns-in_default t c e j d sp q = c.check_type.ensures e j d sp q ∙ ap (λ o. walked o j) (others ByGeneral no-hashes hashed-general _ (opened c.in_default.in_default-own.keys3) sp c.expression_at-line.ensures _ _)
+check_type_crypto_operand-returns-in_default t c e j d sp q = c.check_type.ensures e j d sp q ∙ ap (λ o. walked o j) (others ByGeneral no-hashes hashed-general _ (search rules) sp c.expression_at.ensures _ _)
 
-pub check_type_numeric-expression_at-line-requires : goal.check_type_numeric-expression_at-line-requires
-check_type_numeric-expression_at-line-requires t c = expression-holds c.requires.node
+pub check_type_numeric-expression_at-requires : goal.check_type_numeric-expression_at-requires
+check_type_numeric-expression_at-requires t c = expression-holds c.requires.node
 
 pub check_type_numeric-overflow_add-next : goal.check_type_numeric-overflow_add-next
 check_type_numeric-overflow_add-next t c = omega (arith, row_low c.requires)
 
-pub check_type_numeric-check_variable_type-requires : goal.check_type_numeric-check_variable_type-requires
+pub check_type_numeric-check_variable_type-requires-clause-stands : goal.check_type_numeric-check_variable_type-requires-clause-stands
 unfolding part_of
-check_type_numeric-check_variable_type-requires t c =
+check_type_numeric-check_variable_type-requires-clause-stands t c =
     let a = c.requires in
-    let n = c.expression_at-line.ensures ∙ ap Line.Expression c.in-Variable.is in
+    let n = c.in-Variable.ensures in
     (a.items, row-part a.node (expression-on _ _ a.node.spells) _ n _ refl)
 
 pub check_type_numeric-check_both-requires : goal.check_type_numeric-check_both-requires
 check_type_numeric-check_both-requires t c =
     let a = c.requires in
-    let f = expression-is a.node.spells (c.expression_at-line.ensures ∙ ap Line.Expression c.in-BinaryMathExpression.is) in
+    let f = expression-is a.node.spells c.in-BinaryMathExpression.ensures in
     (omega (arith, row_low a), operands a f.3 f.4)
 
 pub check_type_numeric-returns-then-is_not : goal.check_type_numeric-returns-then-is_not
-unfolding number unary walked
-check_type_numeric-returns-then-is_not t c e j d sp q = rw ((expression-is sp (c.expression_at-line.ensures ∙ ap Line.Expression c.in-UnaryMathExpression.is)).2, sym c.is_not.ensures ∙ c.if-is_not.true) c.refuse.ensures
+unfolding number unary
+check_type_numeric-returns-then-is_not t c e j d sp q = rw ((expression-is sp c.in-UnaryMathExpression.ensures).2, sym c.is_not.ensures ∙ c.if-is_not.true) (ap Err c.new.ensures)
 
 pub check_type_numeric-check_type_numeric-requires : goal.check_type_numeric-check_type_numeric-requires
 check_type_numeric-check_type_numeric-requires t c =
     let a = c.requires in
-    (omega (arith, row_low a), operand (SpellsExpression _ _) a (expression-is a.node.spells (c.expression_at-line.ensures ∙ ap Line.Expression c.in-UnaryMathExpression.is)).1)
-
-pub check_type_numeric-check_type-requires : goal.check_type_numeric-check_type-requires
-check_type_numeric-check_type-requires t c = let a = c.requires in (omega (arith), a)
+    (omega (arith, row_low a), operand (SpellsExpression _ _) a (expression-is a.node.spells c.in-UnaryMathExpression.ensures).1)
 
 pub check_type_numeric-loc_at-requires : goal.check_type_numeric-loc_at-requires
 check_type_numeric-loc_at-requires t c = (expression-holds c.requires.node).room
 
 pub check_type_numeric-returns-in-Variable : goal.check_type_numeric-returns-in-Variable
-unfolding number wants
+unfolding number is_number
 check_type_numeric-returns-in-Variable t c e j d sp q =
-    let f = expression-is sp (c.expression_at-line.ensures ∙ ap Line.Expression c.in-Variable.is) in
-    leaf (λ e. number e c.args.context.target (from_top d)) f.0 f.1 (c.check_variable_type.ensures d q)
+    let f = expression-is sp c.in-Variable.ensures in
+    leaf (λ e. number e c.args.context.target (from_top d)) f.0 f.1 (c.check_variable_type.ensures d is_number q (λ ty b h. grind (arith, common_steps)))
 
 pub check_type_numeric-returns-in-NumberLiteral : goal.check_type_numeric-returns-in-NumberLiteral
-unfolding number walked
+unfolding number
 check_type_numeric-returns-in-NumberLiteral t c e j d sp q =
-    let f = expression-is sp (c.expression_at-line.ensures ∙ ap Line.Expression c.in-NumberLiteral.is) in
+    let f = expression-is sp c.in-NumberLiteral.ensures in
     leaf (λ e. number e c.args.context.target (from_top d)) f.0 f.1 refl
 
 pub check_type_numeric-returns-in-BinaryMathExpression : goal.check_type_numeric-returns-in-BinaryMathExpression
 unfolding number rule_of
-check_type_numeric-returns-in-BinaryMathExpression t c e j d sp q = by_two _ _ _ _ _ d _ q (λ e. number e c.args.context.target (from_top d)) (λ e g ps. both (rule_of Number e.left g ps) (rule_of Number e.right g ps)) (expression-is sp (c.expression_at-line.ensures ∙ ap Line.Expression c.in-BinaryMathExpression.is)) c.check_both.ensures (λ a b. refl)
+check_type_numeric-returns-in-BinaryMathExpression t c e j d sp q = by_two _ _ _ _ _ d _ q (λ e. number e c.args.context.target (from_top d)) (λ e g ps. both (rule_of Number e.left g ps) (rule_of Number e.right g ps)) (expression-is sp c.in-BinaryMathExpression.ensures) c.check_both.ensures (λ a b. refl)
 
 pub check_type_numeric-returns-else-is_not : goal.check_type_numeric-returns-else-is_not
 unfolding number unary
-check_type_numeric-returns-else-is_not t c e j d sp q = by-operand _ _ _ _ _ d _ q (λ e. number e c.args.context.target (from_top d)) (SpellsExpression _ _) number (expression-is sp (c.expression_at-line.ensures ∙ ap Line.Expression c.in-UnaryMathExpression.is)) c.check_type_numeric.ensures (λ a. rw (sym c.is_not.ensures ∙ c.if-is_not.false))
+check_type_numeric-returns-else-is_not t c e j d sp q = by-operand _ _ _ _ _ d _ q (λ e. number e c.args.context.target (from_top d)) (SpellsExpression _ _) number (expression-is sp c.in-UnaryMathExpression.ensures) c.check_type_numeric.ensures (λ a. rw (sym c.is_not.ensures ∙ c.if-is_not.false))
 
 pub check_type_numeric-returns-in-ByteExpression : goal.check_type_numeric-returns-in-ByteExpression
 unfolding number general
-check_type_numeric-returns-in-ByteExpression t c e j d sp q = turn (λ e. general e c.args.context.target (from_top d)) (λ e. number e c.args.context.target (from_top d)) j (expression-is sp (c.expression_at-line.ensures ∙ ap Line.Expression c.in-ByteExpression.is)).2 refl (c.check_type.ensures e j d sp q)
+check_type_numeric-returns-in-ByteExpression t c e j d sp q = turn (λ e. general e c.args.context.target (from_top d)) (λ e. number e c.args.context.target (from_top d)) j (expression-is sp c.in-ByteExpression.ensures).2 refl (c.check_type.ensures e j d sp q)
 
 pub check_type_numeric-returns-in_default : goal.check_type_numeric-returns-in_default
-check_type_numeric-returns-in_default t c e j d sp q = refused-here e j (c.loc_at.ensures _ e j sp) c.refuse-in_default.ensures (others (Refuses number) not-numbers number-refuses _ (opened c.in_default.in_default-own.keys6) sp c.expression_at-line.ensures _ _)
+check_type_numeric-returns-in_default t c e j d sp q = refused-here e j (c.loc_at.ensures _ e j sp) (ap Err c.new-in_default.ensures) (others (Refuses number) not-numbers number-refuses _ (search rules) sp c.expression_at.ensures _ _)
 
-pub check_type_string-expression_at-line-requires : goal.check_type_string-expression_at-line-requires
-check_type_string-expression_at-line-requires t c = expression-holds c.requires.node
+pub check_type_string-expression_at-requires : goal.check_type_string-expression_at-requires
+check_type_string-expression_at-requires t c = expression-holds c.requires.node
 
 pub check_type_string-overflow_add-next : goal.check_type_string-overflow_add-next
 check_type_string-overflow_add-next t c = omega (arith, row_low c.requires)
 
-pub check_type_string-check_variable_type-requires : goal.check_type_string-check_variable_type-requires
+pub check_type_string-check_variable_type-requires-clause-stands : goal.check_type_string-check_variable_type-requires-clause-stands
 unfolding part_of
-check_type_string-check_variable_type-requires t c =
+check_type_string-check_variable_type-requires-clause-stands t c =
     let a = c.requires in
-    let n = c.expression_at-line.ensures ∙ ap Line.Expression c.in-Variable.is in
+    let n = c.in-Variable.ensures in
     (a.items, row-part a.node (expression-on _ _ a.node.spells) _ n _ refl)
 
 pub check_type_string-check_type_crypto_operand-requires : goal.check_type_string-check_type_crypto_operand-requires
 check_type_string-check_type_crypto_operand-requires t c =
     let a = c.requires in
-    (omega (arith, row_low a), operand (SpellsExpression _ _) a (expression-is a.node.spells (c.expression_at-line.ensures ∙ ap Line.Expression c.in-UnaryCryptoExpression.is)).1)
+    (omega (arith, row_low a), operand (SpellsExpression _ _) a (expression-is a.node.spells c.in-UnaryCryptoExpression.ensures).1)
 
 pub check_type_string-loc_at-requires : goal.check_type_string-loc_at-requires
 check_type_string-loc_at-requires t c = (expression-holds c.requires.node).room
 
 pub check_type_string-returns-in-Variable : goal.check_type_string-returns-in-Variable
-unfolding string wants
+unfolding string is_string
 check_type_string-returns-in-Variable t c e j d sp q =
-    let f = expression-is sp (c.expression_at-line.ensures ∙ ap Line.Expression c.in-Variable.is) in
-    leaf (λ e. string e c.args.context.target (from_top d)) f.0 f.1 (c.check_variable_type.ensures d q)
+    let f = expression-is sp c.in-Variable.ensures in
+    leaf (λ e. string e c.args.context.target (from_top d)) f.0 f.1 (c.check_variable_type.ensures d is_string q (λ ty b h. grind (arith, common_steps)))
 
 pub check_type_string-returns-in-StringLiteral : goal.check_type_string-returns-in-StringLiteral
-unfolding string walked
+unfolding string
 check_type_string-returns-in-StringLiteral t c e j d sp q =
-    let f = expression-is sp (c.expression_at-line.ensures ∙ ap Line.Expression c.in-StringLiteral.is) in
+    let f = expression-is sp c.in-StringLiteral.ensures in
     leaf (λ e. string e c.args.context.target (from_top d)) f.0 f.1 refl
 
 pub check_type_string-returns-in-UnaryCryptoExpression : goal.check_type_string-returns-in-UnaryCryptoExpression
 unfolding string
-check_type_string-returns-in-UnaryCryptoExpression t c e j d sp q = by-operand _ _ _ _ _ d _ q (λ e. string e c.args.context.target (from_top d)) (SpellsExpression _ _) hashed (expression-is sp (c.expression_at-line.ensures ∙ ap Line.Expression c.in-UnaryCryptoExpression.is)) c.check_type_crypto_operand.ensures (λ a. refl)
+check_type_string-returns-in-UnaryCryptoExpression t c e j d sp q = by-operand _ _ _ _ _ d _ q (λ e. string e c.args.context.target (from_top d)) (SpellsExpression _ _) hashed (expression-is sp c.in-UnaryCryptoExpression.ensures) c.check_type_crypto_operand.ensures (λ a. refl)
 
 pub check_type_string-returns-in_default : goal.check_type_string-returns-in_default
-check_type_string-returns-in_default t c e j d sp q = refused-here e j (c.loc_at.ensures _ e j sp) c.refuse.ensures (others (Refuses string) not-strings string-refuses _ (opened c.in_default.in_default-own.keys4) sp c.expression_at-line.ensures _ _)
+check_type_string-returns-in_default t c e j d sp q = refused-here e j (c.loc_at.ensures _ e j sp) (ap Err c.new.ensures) (others (Refuses string) not-strings string-refuses _ (search rules) sp c.expression_at.ensures _ _)

@@ -9,25 +9,25 @@ abbrev measure : List ℕ → ℕ → ℕ → ℕ
 measure t i rank = 8 * (length t - i) + rank
 
 abbrev pub decreases-check_both : goal.decreases-check_both
-decreases-check_both l = measure l.table.now l.i 4
+decreases-check_both l = measure l.rows.now.table.now l.i 4
 
 abbrev pub decreases-check_compare : goal.decreases-check_compare
-decreases-check_compare l = measure l.table.now l.i 5
+decreases-check_compare l = measure l.rows.now.table.now l.i 5
 
 abbrev pub decreases-check_operand : goal.decreases-check_operand
-decreases-check_operand l = measure l.table.now l.i 3
+decreases-check_operand l = measure l.rows.now.table.now l.i 3
 
 abbrev pub decreases-check_type : goal.decreases-check_type
-decreases-check_type l = measure l.table.now l.i 0
+decreases-check_type l = measure l.rows.now.table.now l.i 0
 
 abbrev pub decreases-check_type_boolean : goal.decreases-check_type_boolean
-decreases-check_type_boolean l = measure l.table.now l.i 2
+decreases-check_type_boolean l = measure l.rows.now.table.now l.i 2
 
 abbrev pub decreases-check_type_crypto_operand : goal.decreases-check_type_crypto_operand
-decreases-check_type_crypto_operand l = measure l.table.now l.i 1
+decreases-check_type_crypto_operand l = measure l.rows.now.table.now l.i 1
 
 abbrev pub decreases-check_type_numeric : goal.decreases-check_type_numeric
-decreases-check_type_numeric l = measure l.table.now l.i 1
+decreases-check_type_numeric l = measure l.rows.now.table.now l.i 1
 
 abbrev pub decreases-check_type_string : goal.decreases-check_type_string
-decreases-check_type_string l = measure l.table.now l.i 0
+decreases-check_type_string l = measure l.rows.now.table.now l.i 0

@@ -10,22 +10,19 @@ use Rattle.usage.proofs.Trees.{Rest}
 use Rattle.usage.proofs.+check_factors_check_inner_check_variables.Given as goal
 
 abbrev pub decreases-check_factors : goal.decreases-check_factors
-decreases-check_factors l = suc (2 * (length l.table.now - l.i))
+decreases-check_factors l = suc (2 * (length l.rows.now.table.now - l.i))
 
 abbrev pub decreases-check_inner : goal.decreases-check_inner
-decreases-check_inner l = 2 * (length l.table.now - l.i)
+decreases-check_inner l = 2 * (length l.rows.now.table.now - l.i)
 
 abbrev pub decreases-check_variables : goal.decreases-check_variables
-decreases-check_variables l = 2 * (length l.table.now - l.i)
+decreases-check_variables l = 2 * (length l.rows.now.table.now - l.i)
 
-abbrev pub invariant-check_factors-loop-left : goal.invariant-check_factors-loop-left
-invariant-check_factors-loop-left l = Rest (SpellsFactors (line_in l.table) l.listing) usage_factors l.listing l.table l.n l.i l.initial.out l.left l.next l.out
-
-abbrev pub decreases-check_factors-loop-left : goal.decreases-check_factors-loop-left
-decreases-check_factors-loop-left l = l.left
+abbrev pub invariant-check_factors-loop : goal.invariant-check_factors-loop
+invariant-check_factors-loop l = Rest (SpellsFactors (line_in l.rows.table.now) l.rows.listing.now) usage_factors l.rows.listing.now l.rows.table.now l.n l.i l.initial.used.path (l.n - l.counter) l.used
 
 abbrev pub invariant-check_variables-loop-due : goal.invariant-check_variables-loop-due
-invariant-check_variables-loop-due l = Rest (SpellsExpressions (line_in l.table) l.listing) usage_all l.listing l.table l.n l.i l.initial.out l.due l.next l.out
+invariant-check_variables-loop-due l = Rest (SpellsExpressions (line_in l.rows.table.now) l.rows.listing.now) usage_all l.rows.listing.now l.rows.table.now l.n l.i l.initial.used.path l.due l.used
 
 abbrev pub decreases-check_variables-loop-due : goal.decreases-check_variables-loop-due
-decreases-check_variables-loop-due l = length l.table - l.next
+decreases-check_variables-loop-due l = length l.rows.table.now - l.used.next

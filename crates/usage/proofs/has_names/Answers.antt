@@ -27,9 +27,6 @@ returns-then-is_name c s e j sp =
     let L = line_in c.args.table.now in
     sym (q ∙ first-name L s v c.loop-due-test.true ∙ ap (λ b. b || any_names (opened ns)) (sym c.is_name.ensures ∙ c.if-is_name.true))
 
-pub overflow_sub-due : goal.overflow_sub-due
-overflow_sub-due c = omega (arith, c.loop-due-test.true)
-
 pub operands_below-requires : goal.operands_below-requires
 operands_below-requires c =
     let h = c.loop-due-test.true in

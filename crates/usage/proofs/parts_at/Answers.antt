@@ -18,10 +18,6 @@ signatures_at-requires c =
     let p = parts_are (line_in c.args.table.now) c.requires.0 st.spells c.expression_at-line.ensures c.in-CheckSigExpression.is in
     (c.requires.0, below (SpellsFactor (line_in c.args.table.now) c.requires.0) st p.1 (omega arith))
 
-pub returns-in-Variable : goal.returns-in-Variable
-returns-in-Variable c s e j sp =
-    parts_are (line_in c.args.table.now) s sp c.expression_at-line.ensures c.in-Variable.is
-
 pub returns-in-CheckSigExpression : goal.returns-in-CheckSigExpression
 returns-in-CheckSigExpression c s e j sp =
     let p = parts_are (line_in c.args.table.now) s sp c.expression_at-line.ensures c.in-CheckSigExpression.is in

@@ -1,34 +1,22 @@
-use native.Mathlib.Omega.{arith}
-use mathlib.Core.Path.{refl}
-use Rattle.rules.specs.Result.{err}
-use Rattle.output.proofs.Laws.{room-off}
+use Rattle.std.proofs.Common.{◌∙◌, arith, ap, rules}
+use Rattle.std.specs.Prelude.{Err}
+use Rattle.rules.specs.Result.{answer}
 use Rattle.reporting.specs.Text.{text_of}
-use Rattle.reporting.proofs.Measured.{untouched}
-use Rattle.verdicts.specs.declared.Verdict.{Verdict}
-use Rattle.verdicts.specs.Verdicts.{verdict}
-use Rattle.verdicts.proofs.Writing.{no_room, may_write, all-written}
+use Rattle.verdicts.proofs.Writing.{reported-short, written-short, reported-whole, written-whole}
 use Rattle.verdicts.proofs.report_refusal.Goals as goal
 
-pub put_refusal-n-requires : goal.put_refusal-n-requires
-put_refusal-n-requires c = room-off (omega arith)
-
-pub returns-then-output-n : goal.returns-then-output-n
+pub returns-then-output-counter-clause-value : goal.returns-then-output-counter-clause-value
 unfolding text_of
-returns-then-output-n c =
-    let put = c.put_refusal-n.ensures in
-    let all = no_room (err c.args.x) (untouched put) _ (omega (arith, put.past, c.if-output-n.true)) c.without_text.ensures in
-    record { value = all.0; output_after = all.1 }
+returns-then-output-counter-clause-value c = reported-short (Err c.args.x) c.args.output.now (omega (arith, ap (λ s. s.length) c.put_refusal.ensures.text)) c.without_text.ensures
 
-pub put_refusal-requires : goal.put_refusal-requires
+pub returns-then-output-counter-clause-output_after : goal.returns-then-output-counter-clause-output_after
 unfolding text_of
-put_refusal-requires c =
-    let put = c.put_refusal-n.ensures in
-    may_write (err c.args.x) (untouched put) (omega (arith, put.past, c.if-output-n.false)) (omega arith)
+returns-then-output-counter-clause-output_after c = written-short (Err c.args.x) c.args.output.now (omega (arith, ap (λ s. s.length) c.put_refusal.ensures.text))
 
-pub returns : goal.returns
-unfolding text_of verdict
-returns c =
-    let a = c.args in
-    let put = c.put_refusal-n.ensures in
-    let all = all-written (err a.x) (untouched put) (Verdict.Refused a.x) refl (omega (arith, put.past)) (omega (arith, put.past, c.if-output-n.false)) c.put_refusal.ensures in
-    record { value = all.0; output_after = all.1 }
+pub returns-clause-value : goal.returns-clause-value
+unfolding text_of answer
+returns-clause-value c = reported-whole (Err c.args.x) c.args.output.now (omega (arith, ap (λ s. s.length) c.put_refusal.ensures.text)) (ap (λ s. s.at) c.put_refusal-2.ensures.text ∙ omega arith)
+
+pub returns-clause-output_after : goal.returns-clause-output_after
+unfolding text_of
+returns-clause-output_after c = written-whole (Err c.args.x) c.args.output.now (omega (arith, ap (λ s. s.length) c.put_refusal.ensures.text)) (search rules)

@@ -1,35 +1,23 @@
-use native.Mathlib.Omega.{arith}
-use mathlib.Core.Path.{refl, ◌∙◌}
-use Rattle.text.specs.Text.{word, location}
-use Rattle.text.specs.declared.LocationRead.{LocationRead}
-use Rattle.text.specs.declared.WordRead.{WordRead}
-use Rattle.text.proofs.Places.{word_keeps, bind-failed}
-use Rattle.text.proofs.Told.{answer-failed, told-got, told-failed, word-tells}
-use Rattle.words.proofs.Words.{word-past, from-none, from-got, from-failed, from_all}
+use Rattle.std.proofs.Common.{arith, sym, ◌∙◌}
+use Rattle.words.proofs.Words.{from-none, from-some, from-failed, from_all, location-past, word-inside}
 use Rattle.words.proofs.read_location.Goals as goal
 
-pub returns-then-listing-at : goal.returns-then-listing-at
-unfolding location
-returns-then-listing-at c = let a = c.args in answer-failed LocationRead.Got LocationRead.Failed location a.listing.now a.at (bind-failed word _ a.listing.now a.at (word-past a.listing.now a.at (omega arith)))
+pub returns-then-c : goal.returns-then-c
+returns-then-c c = location-past c.args.c c.if-c.true
 
-pub loop-k-init : goal.loop-k-init
-loop-k-init c = let a = c.args in (omega arith, omega arith, from-none a.listing.now a.at)
+pub loop-word-init : goal.loop-word-init
+loop-word-init c = (c.if-c.false, from-none c.args.c)
 
-pub returns-in_default : goal.returns-in_default
-returns-in_default c =
-    let s = c.args.listing.now in
-    let l = c.loop-k in
-    from-failed s l.k l.words l.next (omega arith) (told-failed WordRead.Got WordRead.Failed word-tells word s l.next c.short_word.ensures c.in_default.is) ∙ l.invariant.2
+pub returns-in_err-word : goal.returns-in_err-word
+returns-in_err-word c =
+    let l = c.loop-word in
+    c.from_residual.ensures ∙ from-failed l.word-index l.word-items l.next (omega arith) (sym c.short_word.ensures ∙ c.in_err-word.was) ∙ l.invariant.1
 
-pub loop-k-preserved : goal.loop-k-preserved
-loop-k-preserved c =
-    let s = c.args.listing.now in
-    let l = c.loop-k in
-    let read = told-got WordRead.Got WordRead.Failed word-tells word word_keeps s l.next c.short_word.ensures c.in-Got.is in
-    (omega arith, (word_keeps s l.next _ refl _ _ _ read).inside l.invariant.1, from-got s l.k l.words l.next (omega arith) read ∙ l.invariant.2)
+pub loop-word-preserved : goal.loop-word-preserved
+loop-word-preserved c =
+    let l = c.loop-word in
+    let read = sym c.short_word.ensures ∙ c.in_ok-word.was in
+    (word-inside l.next read l.invariant.0, from-some l.word-index l.word-items l.next (omega arith) read ∙ l.invariant.1)
 
 pub returns : goal.returns
-returns c =
-    let s = c.args.listing.now in
-    let l = c.loop-k in
-    from_all s l.k l.words l.next (omega arith) ∙ l.invariant.2
+returns c = let l = c.loop-word in from_all l.word-index l.word-items l.next (omega arith) ∙ l.invariant.1

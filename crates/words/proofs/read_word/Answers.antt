@@ -1,54 +1,37 @@
-use Prim.Native.Nat.{◌+◌, ◌-◌}
-use native.Mathlib.Omega.{arith}
-use mathlib.Core.Path.{◌≡◌, sym, ap, ◌∙◌}
-use lib.ListN.{drop}
-use Rattle.text.specs.Text.{comma, digits, capped, up_to, word}
-use Rattle.text.specs.declared.WordRead.{WordRead}
-use Rattle.text.proofs.Fields.{digit-range, decimal-past, decimal-zero, decimal_digit, decimal-other}
-use Rattle.text.proofs.Told.{answer-got, answer-failed, answer-same, skip-to, skip-failed}
-use Rattle.words.proofs.read_word.Goals.{In-To}
+use Rattle.std.proofs.Common.{◌≡◌, arith, sym, ◌∙◌}
+use Rattle.text.specs.Text.{read, comma, up_to, word}
+use Rattle.text.proofs.Cursors.{byte-some, byte-none, digit-some, up_to-past, up_to-none, up_to-nought, up_to-more}
+use Rattle.words.proofs.read_word.Goals.{In_ok-start}
 use Rattle.words.proofs.read_word.Goals as goal
 
+pub returns-in_err-start : goal.returns-in_err-start
+unfolding word
+returns-in_err-start c = c.from_residual.ensures ∙ sym (byte-none comma (up_to 4294967295) c.args.c (sym c.skip.ensures ∙ c.in_err-start.was))
+
 -- after the comma: the number
-start : (c : In-To) → let a = c.args in let n = c.in-To.n in word a.at (drop a.at a.listing.now) ≡ up_to 4294967295 n (drop n a.listing.now)
+after_comma : (c : In_ok-start) → read (up_to 4294967295) c.in_ok-start.start ≡ read word c.args.c
 unfolding word
-start c = let a = c.args in skip-to comma (up_to 4294967295) a.listing.now a.at c.skip.ensures c.in-To.is
+after_comma c = sym (byte-some comma (up_to 4294967295) c.args.c (sym c.skip.ensures ∙ c.in_ok-start.was))
 
-pub returns-in_default : goal.returns-in_default
-unfolding word
-returns-in_default c =
-    let a = c.args in
-    answer-failed WordRead.Got WordRead.Failed word a.listing.now a.at (skip-failed comma (up_to 4294967295) a.listing.now a.at c.skip.ensures c.in_default.is)
+pub returns-in_err-get : goal.returns-in_err-get
+returns-in_err-get c = c.from_residual-in_err-get.ensures ∙ up_to-past 4294967295 c.in_ok-start.start c.in_err-get.ensures.lookup.3 ∙ after_comma (goal.at.returns-in_err-get c).In_ok-start
 
-pub returns-then-listing-n : goal.returns-then-listing-n
-returns-then-listing-n c =
-    let a = c.args in
-    let n = c.in-To.n in
-    answer-failed WordRead.Got WordRead.Failed word a.listing.now a.at (start (goal.at.returns-then-listing-n c).In-To ∙ decimal-past 4294967295 a.listing.now n c.if-listing-n.true)
+pub returns-in_err-first : goal.returns-in_err-first
+returns-in_err-first c =
+    let h = c.in_ok-get.ensures.lookup.3 in
+    c.from_residual-in_err-first.ensures ∙ up_to-none 4294967295 c.in_ok-start.start h.0 (h.1 0) (sym c.digit.ensures ∙ c.in_err-first.was) ∙ after_comma (goal.at.returns-in_err-first c).In_ok-start
 
-pub returns-then-first-eq48 : goal.returns-then-first-eq48
-returns-then-first-eq48 c =
-    let a = c.args in
-    let n = c.in-To.n in
-    answer-got WordRead.Got WordRead.Failed word a.listing.now a.at (start (goal.at.returns-then-first-eq48 c).In-To ∙ decimal-zero 4294967295 a.listing.now n c.if-listing-n.false c.if-first-eq48.true)
-
-pub overflow_sub-wide : goal.overflow_sub-wide
-overflow_sub-wide c = omega (arith, c.wide.ensures, digit-range _ (sym c.is_digit.ensures ∙ c.if-is_digit.true))
+pub returns-then-first-eq0 : goal.returns-then-first-eq0
+returns-then-first-eq0 c =
+    let h = c.in_ok-get.ensures.lookup.3 in
+    up_to-nought 4294967295 c.in_ok-start.start h.0 (h.1 0) (sym c.digit.ensures ∙ c.in_ok-first.was) c.if-first-eq0.true ∙ after_comma (goal.at.returns-then-first-eq0 c).In_ok-start
 
 pub word_digits-requires : goal.word_digits-requires
-word_digits-requires c = omega (arith, c.wide.ensures, digit-range _ (sym c.is_digit.ensures ∙ c.if-is_digit.true))
-
-pub returns-then-is_digit : goal.returns-then-is_digit
-returns-then-is_digit c =
-    let a = c.args in
-    let s = a.listing.now in
-    let n = c.in-To.n in
-    let digit = sym c.is_digit.ensures ∙ c.if-is_digit.true in
-    let same = ap (λ b. capped 4294967295 (digits (b - 48)) (n + 1) (drop (n + 1) s)) c.wide.ensures in
-    answer-same WordRead.Got WordRead.Failed word (capped 4294967295 (digits (c.wide.result - 48))) s a.at (n + 1) c.word_digits.ensures (start (goal.at.returns-then-is_digit c).In-To ∙ decimal_digit 4294967295 s n c.if-listing-n.false c.if-first-eq48.false digit ∙ sym same)
+word_digits-requires c =
+    let h = c.in_ok-get.ensures.lookup.3 in
+    (omega (arith, h.0), omega (arith, digit-some _ (sym c.digit.ensures ∙ c.in_ok-first.was)))
 
 pub returns : goal.returns
 returns c =
-    let a = c.args in
-    let n = c.in-To.n in
-    answer-failed WordRead.Got WordRead.Failed word a.listing.now a.at (start (goal.at.returns c).In-To ∙ decimal-other 4294967295 a.listing.now n c.if-listing-n.false c.if-first-eq48.false (sym c.is_digit.ensures ∙ c.if-is_digit.false))
+    let h = c.in_ok-get.ensures.lookup.3 in
+    c.word_digits.ensures ∙ up_to-more 4294967295 c.in_ok-start.start h.0 (h.1 0) (sym c.digit.ensures ∙ c.in_ok-first.was) c.if-first-eq0.false ∙ after_comma (goal.at.returns c).In_ok-start

@@ -1,46 +1,30 @@
-use Prim.Native.Nat.{◌-◌, ◌+◌, ◌*◌}
-use native.Mathlib.Omega.{arith}
-use mathlib.Core.Path.{refl, sym, ap, ◌∙◌}
-use borrow.Author.Tests.{not-true, not-false}
-use lib.ListN.{get_or}
-use Rattle.text.specs.declared.WordRead.{WordRead}
-use Rattle.text.proofs.Fields.{digit-range, digits-stop, digits-past, Digits, capped-step, capped-got, capped-over}
+use Rattle.std.proofs.Common.{◌≡◌, ◌+◌, ◌*◌, length, refl, arith, sym, ◌∙◌}
+use Rattle.text.proofs.Cursors.{digit-none, number_from, number-digit, number-stop, number-past, number-over}
+use Rattle.words.proofs.word_digits.Goals.{In-Some}
 use Rattle.words.proofs.word_digits.Goals as goal
 
-pub loop-i-init : goal.loop-i-init
-loop-i-init c = (omega arith, refl)
+pub returns-in_default : goal.returns-in_default
+returns-in_default c =
+    let l = c.loop-at in
+    number-stop 4294967295 l.v (record c.args.c { at = l.at }) l.invariant.small c.loop-at-test.true (digit-none _ (sym c.digit.ensures ∙ c.in_default.is)) ∙ l.invariant.same
 
-pub returns-then-not-is_digit : goal.returns-then-not-is_digit
-returns-then-not-is_digit c =
-    let s = c.args.listing.now in
-    let l = c.loop-i in
-    let out = sym c.is_digit.ensures ∙ not-true _ c.if-not-is_digit.true-raw in
-    capped-got WordRead.Got WordRead.Failed s 4294967295 l.v l.i l.invariant.0 (digits-stop l.v s l.i c.loop-i-test.true out) ∙ l.invariant.1
-
-pub overflow_sub-v : goal.overflow_sub-v
-overflow_sub-v c = omega (arith, c.wide.ensures, digit-range _ (sym c.is_digit.ensures ∙ not-false _ c.if-not-is_digit.false-raw))
-
-pub overflow_add-v : goal.overflow_add-v
-overflow_add-v c = omega (arith, c.wide.ensures, digit-range _ (sym c.is_digit.ensures ∙ not-false _ c.if-not-is_digit.false-raw))
+-- the digit at the position is one more
+step : (c : In-Some) → number_from 4294967295 (c.loop-at.v * 10 + c.in-Some.n) (record c.args.c { at = c.loop-at.at + 1 }) ≡ number_from 4294967295 c.args.first c.args.c
+step c = number-digit 4294967295 (record c.args.c { at = c.loop-at.at }) c.loop-at-test.true refl c.loop-at.v (sym c.digit.ensures ∙ c.in-Some.is) ∙ c.loop-at.invariant.same
 
 pub returns-then-v-gt-MAX_WORD : goal.returns-then-v-gt-MAX_WORD
-returns-then-v-gt-MAX_WORD c =
-    let s = c.args.listing.now in
-    let l = c.loop-i in
-    let digit = sym c.is_digit.ensures ∙ not-false _ c.if-not-is_digit.false-raw in
-    let d = ap (λ b. l.v * 10 + (b - 48)) c.wide.ensures in
-    capped-over WordRead.Got WordRead.Failed s 4294967295 (l.v * 10 + (get_or s l.i 0 - 48)) (l.i + 1) (omega (arith, d)) ∙ capped-step WordRead.Got WordRead.Failed s 4294967295 l.v l.i c.loop-i-test.true digit ∙ l.invariant.1
+returns-then-v-gt-MAX_WORD c = number-over 4294967295 (c.loop-at.v * 10 + c.in-Some.n) _ c.if-v-gt-MAX_WORD.true ∙ step (goal.at.returns-then-v-gt-MAX_WORD c).In-Some
 
-pub loop-i-preserved : goal.loop-i-preserved
-loop-i-preserved c =
-    let s = c.args.listing.now in
-    let l = c.loop-i in
-    let digit = sym c.is_digit.ensures ∙ not-false _ c.if-not-is_digit.false-raw in
-    let d = ap (λ b. l.v * 10 + (b - 48)) c.wide.ensures in
-    (c.if-v-gt-MAX_WORD.false, ap (λ v. Digits WordRead.Got WordRead.Failed s 4294967295 v (l.i + 1)) d ∙ capped-step WordRead.Got WordRead.Failed s 4294967295 l.v l.i c.loop-i-test.true digit ∙ l.invariant.1)
+pub loop-at-preserved : goal.loop-at-preserved
+loop-at-preserved c = record {
+  small = c.if-v-gt-MAX_WORD.false;
+  same = step (goal.at.loop-at-preserved c).In-Some;
+}
 
 pub returns : goal.returns
 returns c =
-    let s = c.args.listing.now in
-    let l = c.loop-i in
-    capped-got WordRead.Got WordRead.Failed s 4294967295 l.v l.i l.invariant.0 (digits-past l.v s l.i c.loop-i-test.false) ∙ l.invariant.1
+    let l = c.loop-at in
+    let k = c.args.c in
+    let n = length k.listing.now in
+    let done : l.at ≡ n = omega arith in
+    number-past 4294967295 l.v (record k { at = n }) l.invariant.small (omega arith) ∙ rw done at l.invariant.same

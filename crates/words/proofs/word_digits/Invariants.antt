@@ -1,12 +1,7 @@
-use Prim.Native.Nat.{◌-◌, ◌≤◌}
-use mathlib.Core.Path.{◌≡◌}
-use lib.ListN.{length}
-use Rattle.text.specs.declared.WordRead.{WordRead}
-use Rattle.text.proofs.Fields.{Digits}
+use Rattle.std.proofs.Common.{◌≡◌, ◌≤◌}
+use Rattle.text.proofs.Cursors.{number_from}
 use Rattle.words.proofs.word_digits.Given as goal
 
-abbrev pub invariant-loop-i : goal.invariant-loop-i
-invariant-loop-i l = (l.v ≤ 4294967295) × (Digits WordRead.Got WordRead.Failed l.listing 4294967295 l.v l.i ≡ Digits WordRead.Got WordRead.Failed l.listing 4294967295 l.first l.at)
-
-abbrev pub decreases-loop-i : goal.decreases-loop-i
-decreases-loop-i l = length l.listing - l.i
+-- the digits so far make v
+abbrev pub invariant-loop-at : goal.invariant-loop-at
+invariant-loop-at l = record { small : l.v ≤ 4294967295; same : number_from 4294967295 l.v (record l.c { at = l.at }) ≡ number_from 4294967295 l.first l.c }

@@ -1,26 +1,22 @@
-use Rattle.examiner.proofs.Checking.{may-check}
+use Rattle.std.proofs.Common.{◌≡◌, subst, rules}
+use Rattle.rules.specs.Result.{answer}
+use Rattle.rules.specs.Analyze.{analyze as analyze_of}
+use Rattle.declarations.specs.Items.{ContractAt}
+use Rattle.declarations.specs.Noted.{item_at}
+use Rattle.examiner.specs.Name.{items, named_by}
 use Rattle.examiner.proofs.Naming.{refuses, names}
 use Rattle.examiner.proofs.name.name_place.Goals as goal
 
-pub name_in_rows-requires : goal.name_in_rows-requires
-name_in_rows-requires c =
+pub returns-in_err-examine : goal.returns-in_err-examine
+returns-in_err-examine c =
     let a = c.args in
-    let r = c.read_listing-read in
-    let e = c.in-Ok.is in
-    may-check a.listing.now a.work.now r.new.work r.ensures.value r.ensures.work_after _ e (r.ensures.spelled _ e)
+    let all = refuses a.listing.now _ a.path a.position (c.examine.ensures.refused _ c.in_err-examine.was).0 c.from_residual.result c.from_residual.ensures.1 in
+    record { value = all.0; inside = all.1; work_after = c.examine.ensures.work_after }
 
-pub returns-in-Err : goal.returns-in-Err
-returns-in-Err c =
+pub returns : goal.returns
+returns c =
     let a = c.args in
-    let r = c.read_listing-read in
-    let all = refuses a.listing.now a.work.now r.new.work a.path a.position r.ensures.value r.ensures.work_after _ c.in-Err.is c.no_place.ensures in
-    record { value = all.0; len_in_bounds = all.1.0; work_after = all.1.1 }
-
-pub returns-in-Ok : goal.returns-in-Ok
-returns-in-Ok c =
-    let a = c.args in
-    let r = c.read_listing-read in
-    let e = c.in-Ok.is in
-    let x = c.name_in_rows.ensures in
-    let all = names a.listing.now a.work.now r.new.work a.path a.position r.ensures.value r.ensures.work_after _ e (r.ensures.spelled _ e) _ _ x.value x.work_after in
-    record { value = all.0; len_in_bounds = all.1.0; work_after = all.1.1 }
+    let m = c.examine.ensures.made _ c.in_ok-examine.was in
+    let is : c.in_ok-examine.field-0 ≡ named_by (answer (analyze_of m.contract)) (item_at (items a.listing.now) a.path a.position) = search rules in
+    let all = names a.listing.now _ a.path a.position m.contract (subst (λ s. ContractAt s m.rows.now.table.now m.count) m.listing m.given.stands) m.declares m.analyzed _ is in
+    record { value = all.0; inside = all.1; work_after = c.examine.ensures.work_after }

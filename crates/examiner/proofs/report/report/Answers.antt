@@ -1,33 +1,43 @@
-use Rattle.examiner.proofs.Checking.{may-check}
-use Rattle.examiner.proofs.Reporting.{short, report-refused, report-read}
+use Rattle.std.proofs.Common.{◌≡◌, length, rules, sym, ◌∙◌, Err}
+use Rattle.rules.specs.Analyze.{analyze as analyze_of}
+use Rattle.reporting.specs.Text.{text_of}
+use Rattle.verdicts.specs.Reports.{reported, written}
+use Rattle.examiner.proofs.Reporting.{short-answer, work-short, short-output, report-is, output-is, opens}
 use Rattle.examiner.proofs.report.report.Goals as goal
 
 pub returns-then-work-lt-WORK_WORDS : goal.returns-then-work-lt-WORK_WORDS
 returns-then-work-lt-WORK_WORDS c =
-    let a = c.args in
-    let all = short a.listing.now a.work.now a.output.now _ c.if-work-lt-WORK_WORDS.true c.without_text.ensures in
-    record { value = all.0; work_after = all.1.0; output_after = all.1.1.0; output_after_2 = all.1.1.1 }
-
-pub report_rows-requires : goal.report_rows-requires
-report_rows-requires c =
-    let a = c.args in
-    let r = c.read_listing-read in
-    let e = c.in-Ok.is in
-    may-check a.listing.now a.work.now r.new.work r.ensures.value r.ensures.work_after _ e (r.ensures.spelled _ e)
+    let s = c.args.listing.now in
+    let w = c.args.work.now in
+    let out = c.args.output.now in
+    let h = c.if-work-lt-WORK_WORDS.true in
+    let r = c.without_text.ensures ∙ sym (short-answer s (length w) out h) in
+    let o = short-output s (length w) out h in
+    record { value = r; work_after = work-short w h; output_after = o; output_after_2 = opens s (length w) out _ _ r o }
 
 pub returns-in-Err : goal.returns-in-Err
 returns-in-Err c =
-    let a = c.args in
-    let r = c.read_listing-read in
+    let s = c.args.listing.now in
+    let w = length c.args.work.now in
+    let out = c.args.output.now in
+    let enough = c.if-work-lt-WORK_WORDS.false in
+    let q = c.examine-examined.ensures.refused _ c.in-Err.is in
     let t = c.report_refusal in
-    let all = report-refused a.listing.now a.work.now r.new.work a.output.now c.if-work-lt-WORK_WORDS.false r.ensures.value r.ensures.work_after _ c.in-Err.is _ _ t.ensures.value t.ensures.output_after in
-    record { value = all.0; work_after = all.1.0; output_after = all.1.1.0; output_after_2 = all.1.1.1 }
+    let f : t.result ≡ reported (Err c.in-Err.x) (length out) = search rules in
+    let g : t.new.output ≡ written (text_of (Err c.in-Err.x)) out = search rules in
+    let r = f ∙ sym (report-is s w out enough (Err c.in-Err.x) q.0) in
+    let o = g ∙ sym (output-is s w out enough (Err c.in-Err.x) q.0) in
+    record { value = r; work_after = c.examine-examined.ensures.work_after; output_after = o; output_after_2 = opens s w out _ _ r o }
 
-pub returns-in-Ok : goal.returns-in-Ok
-returns-in-Ok c =
-    let a = c.args in
-    let r = c.read_listing-read in
-    let e = c.in-Ok.is in
-    let t = c.report_rows in
-    let all = report-read a.listing.now a.work.now r.new.work a.output.now c.if-work-lt-WORK_WORDS.false r.ensures.value r.ensures.work_after _ (r.ensures.spelled _ e) _ _ _ t.ensures.work_after t.ensures.value t.ensures.output_after in
-    record { value = all.0; work_after = all.1.0; output_after = all.1.1.0; output_after_2 = all.1.1.1 }
+pub returns-in-Ok-clause-value : goal.returns-in-Ok-clause-value
+returns-in-Ok-clause-value c =
+    let m = c.examine-examined.ensures.made _ c.in-Ok.is in
+    search rules ∙ sym (report-is c.args.listing.now (length c.args.work.now) c.args.output.now c.if-work-lt-WORK_WORDS.false (analyze_of m.contract) m.analyzed)
+
+pub returns-in-Ok-clause-output_after : goal.returns-in-Ok-clause-output_after
+returns-in-Ok-clause-output_after c =
+    let m = c.examine-examined.ensures.made _ c.in-Ok.is in
+    search rules ∙ sym (output-is c.args.listing.now (length c.args.work.now) c.args.output.now c.if-work-lt-WORK_WORDS.false (analyze_of m.contract) m.analyzed)
+
+pub returns-in-Ok-clause-output_after_2 : goal.returns-in-Ok-clause-output_after_2
+returns-in-Ok-clause-output_after_2 c = opens c.args.listing.now (length c.args.work.now) c.args.output.now _ _ (returns-in-Ok-clause-value c) (returns-in-Ok-clause-output_after c)

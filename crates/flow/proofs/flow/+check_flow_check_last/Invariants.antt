@@ -1,5 +1,5 @@
 -- check_flow and the check of a last statement meet their contracts. The measure is the rows left.
-use Prim.Native.Nat.{ℕ, ◌-◌, ◌<◌}
+use Prim.Native.Nat.{ℕ, ◌+◌, ◌-◌, ◌<◌}
 use mathlib.Core.List.{List}
 use mathlib.Core.Path.{◌≡◌}
 use lib.ListN.{length}
@@ -17,8 +17,10 @@ decreases-check_flow l = length l.table.now - l.i
 abbrev pub decreases-check_last : goal.decreases-check_last
 decreases-check_last l = length l.table.now - l.i
 
-abbrev pub invariant-check_flow-loop-left : goal.invariant-check_flow-loop-left
-invariant-check_flow-loop-left l = (l.i < l.at) × (0 < l.left) × Somewhere (λ s. StatementsAt s l.table l.left l.at) × ((s : List ℕ) (b : Block) (j : ℕ) → SpellsBlock (line_in l.table) s l.i b j → (d : Block) × SpellsStatements (line_in l.table) s l.left l.at d j × (flow b ≡ flow d))
-
-abbrev pub decreases-check_flow-loop-left : goal.decreases-check_flow-loop-left
-decreases-check_flow-loop-left l = l.left
+-- the statements from the counter on, and the last, are left
+abbrev pub invariant-check_flow-loop : goal.invariant-check_flow-loop
+invariant-check_flow-loop l = record {
+  onward : l.i < l.at;
+  stand : Somewhere (λ s. StatementsAt s l.table (l.n + 1 - l.counter) l.at);
+  spelled : (s : List ℕ) (b : Block) (j : ℕ) → SpellsBlock (line_in l.table) s l.i b j → (d : Block) × SpellsStatements (line_in l.table) s (l.n + 1 - l.counter) l.at d j × (flow b ≡ flow d);
+}

@@ -18,7 +18,8 @@ abbrev pub decreases-count_through : goal.decreases-count_through
 decreases-count_through l = length l.table.now - l.i
 
 abbrev pub invariant-count_paths-loop-left : goal.invariant-count_paths-loop-left
-invariant-count_paths-loop-left l = (l.i < l.at) × Somewhere (λ s. StatementsAt s l.table l.left l.at) × ((s : List ℕ) (b : Block) (j : ℕ) → SpellsBlock (line_in l.table) s l.i b j → (d : Block) × SpellsStatements (line_in l.table) s l.left l.at d j × (count b ≡ count d))
-
-abbrev pub decreases-count_paths-loop-left : goal.decreases-count_paths-loop-left
-decreases-count_paths-loop-left l = l.left
+invariant-count_paths-loop-left l = record {
+  onward : l.i < l.at;
+  stand : Somewhere (λ s. StatementsAt s l.table l.left l.at);
+  spelled : (s : List ℕ) (b : Block) (j : ℕ) → SpellsBlock (line_in l.table) s l.i b j → (d : Block) × SpellsStatements (line_in l.table) s l.left l.at d j × (count b ≡ count d);
+}

@@ -1,12 +1,10 @@
-use Prim.Native.Nat.{◌+◌, ◌≤◌}
-use mathlib.Core.Path.{◌≡◌}
-use lib.ListN.{length, take, drop}
+use Rattle.std.proofs.Common.{◌≡◌, length}
 use Rattle.text.specs.Text.{unhex}
 use Rattle.rules.specs.Keys.{all_digits}
 use Rattle.limits.proofs.literals.are_digits.Given as goal
 
-abbrev pub invariant-loop-left : goal.invariant-loop-left
-invariant-loop-left l = (l.i + l.left ≤ length l.listing) × (all_digits (unhex (take l.left (drop l.i l.listing))) ≡ all_digits (unhex (take l.len (drop l.at l.listing))))
+abbrev pub invariant-loop-rest : goal.invariant-loop-rest
+invariant-loop-rest l = all_digits (unhex l.rest) ≡ all_digits (unhex l.digits)
 
-abbrev pub decreases-loop-left : goal.decreases-loop-left
-decreases-loop-left l = l.left
+abbrev pub decreases-loop-rest : goal.decreases-loop-rest
+decreases-loop-rest l = length l.rest

@@ -1,11 +1,11 @@
-use Rattle.nodes.specs.declared.Answer.{Answer}
+use Rattle.std.proofs.Common.{ℕ, ◌-◌}
+use Rattle.rules.specs.Result.{Result}
 use Rattle.rules.specs.Types.{inners}
 use Rattle.operands.specs.Typed.{FactorsUnder, ChecksFactors}
 use Rattle.operands.proofs.signatures.check_inners.Given as goal
 
--- the factors that are left stand from `next` on, and what they answer is the answer
-abbrev pub invariant-loop-left : goal.invariant-loop-left
-invariant-loop-left l = FactorsUnder l.left l.listing l.table l.context l.next × ((r : Answer) → ChecksFactors l.left (λ fs g ps. inners g ps fs) l.listing l.table l.context l.next r → ChecksFactors l.count (λ fs g ps. inners g ps fs) l.listing l.table l.context l.i r)
-
-abbrev pub decreases-loop-left : goal.decreases-loop-left
-decreases-loop-left l = l.left
+-- what is answered from the row at hand is the answer of all
+abbrev pub invariant-loop : goal.invariant-loop
+invariant-loop l =
+    FactorsUnder (l.count - l.counter) l.rows.listing.now l.rows.table.now l.context l.next
+    × ((r : Result ℕ) → ChecksFactors (l.count - l.counter) (λ fs g ps. inners g ps fs) l.rows.listing.now l.rows.table.now l.context l.next r → ChecksFactors l.count (λ fs g ps. inners g ps fs) l.rows.listing.now l.rows.table.now l.context l.i r)

@@ -1,36 +1,39 @@
 use native.Mathlib.Omega.{arith}
-use mathlib.Core.Path.{sym, ◌∙◌}
+use mathlib.Core.Logic.{inl, inr}
+use mathlib.Core.Path.{sym, ap, ◌∙◌}
+use Rattle.std.proofs.Common.{Err}
 use Rattle.ast.specs.Tree.{loc}
-use Rattle.nodes.specs.Stands.{walked}
+use Rattle.text.specs.Text.{unhex, bytes_of}
+use Rattle.rules.specs.Keys.{is_key}
 use Rattle.rules.specs.Types.{literal_of, key}
 use Rattle.operands.proofs.Laws.{row_low, leaf}
-use Rattle.operands.proofs.Leaves.{leaf-named, leaf-bytes, leaf-other, no-literal}
+use Rattle.operands.proofs.Leaves.{leaf-named, leaf-other, no-literal}
+use Rattle.operands.specs.Typed.{LeafIs}
 use Rattle.operands.proofs.signatures.check_key.Goals as goal
 
-pub leaf_at-leaf-requires : goal.leaf_at-leaf-requires
-leaf_at-leaf-requires c = c.requires.node
+pub leaf_at-requires : goal.leaf_at-requires
+leaf_at-requires c = c.requires.node
 
-pub is_key-requires : goal.is_key-requires
-is_key-requires c = let a = c.requires in (leaf-bytes _ _ _ _ _ (c.leaf_at-leaf.ensures a.node.tree a.node.next a.node.spells) c.in-Bytes.is).2
+pub of-requires : goal.of-requires
+unfolding LeafIs
+of-requires c = let a = c.requires in (c.in-Bytes.ensures a.node.tree a.node.next a.node.spells).2
 
 pub overflow_add-result : goal.overflow_add-result
 overflow_add-result c = omega (arith, row_low c.requires)
 
 pub returns-then-is_key : goal.returns-then-is_key
-unfolding key literal_of loc walked
-returns-then-is_key c e j d sp q = let f = leaf-bytes _ _ _ _ _ (c.leaf_at-leaf.ensures e j sp) c.in-Bytes.is in
-    leaf (key _) f.0 f.1 (rw (sym c.is_key.ensures ∙ c.if-is_key.true))
+unfolding key literal_of loc LeafIs bytes_of
+returns-then-is_key c e j d sp q = let f = c.in-Bytes.ensures e j sp in
+    leaf (key _) f.0 f.1 (rw (sym (c.is_key.ensures ∙ ap (λ d. is_key c.args.context.target (unhex d) c.in-Bytes.mark) c.of.ensures) ∙ c.if-is_key.true))
 
 pub returns-in-Named : goal.returns-in-Named
-unfolding key literal_of loc walked
-returns-in-Named c e j d sp q = rw (leaf-named _ _ _ _ _ (c.leaf_at-leaf.ensures e j sp) c.in-Named.is).0 c.refuse.ensures
-
-pub returns-in-Other : goal.returns-in-Other
-unfolding walked
-returns-in-Other c e j d sp q = let f = leaf-other _ _ _ _ _ (c.leaf_at-leaf.ensures e j sp) c.in-Other.is in
-    rw (no-literal c.args.context.target e f.1 f.2) c.refuse-in-Other.ensures
+unfolding key literal_of loc
+returns-in-Named c e j d sp q = elim c.in-Named.is [
+  | inl (x, h) ↦ rw (leaf-named _ _ _ _ _ (c.leaf_at.ensures e j sp) h).0 (ap Err c.new-in-Named.ensures)
+  | inr h ↦ let f = leaf-other _ _ _ _ _ (c.leaf_at.ensures e j sp) h in rw (no-literal c.args.context.target e f.1 f.2) (ap Err c.new-in-Named.ensures)
+]
 
 pub returns-else-is_key : goal.returns-else-is_key
-unfolding key literal_of loc walked
-returns-else-is_key c e j d sp q = let f = leaf-bytes _ _ _ _ _ (c.leaf_at-leaf.ensures e j sp) c.in-Bytes.is in
-    rw (f.0, sym c.is_key.ensures ∙ c.if-is_key.false) c.refuse-in-Bytes.ensures
+unfolding key literal_of loc LeafIs bytes_of
+returns-else-is_key c e j d sp q = let f = c.in-Bytes.ensures e j sp in
+    rw (f.0, sym (c.is_key.ensures ∙ ap (λ d. is_key c.args.context.target (unhex d) c.in-Bytes.mark) c.of.ensures) ∙ c.if-is_key.false) (ap Err c.new.ensures)

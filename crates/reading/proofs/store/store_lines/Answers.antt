@@ -1,32 +1,33 @@
-use native.Mathlib.Omega.{arith}
-use mathlib.Core.Path.{refl, ◌∙◌}
-use Rattle.reading.proofs.Stored.{storing-none, storing-more, stored-malformed, stored-end, stored-full}
+use Rattle.std.proofs.Common.{◌*◌, ◌<◌, length, arith, refl, sym, ap, ◌∙◌}
+use Rattle.listing.specs.Forms.{line_at}
+use Rattle.std.proofs.lemmas.List.Edits.{sets}
+use Rattle.rows.specs.Rows.{row_words, words_of, with_row}
+use Rattle.reading.proofs.Stored.{storing-none, storing-more, stored-malformed, stored-end, line-read, line-none}
 use Rattle.reading.proofs.store.store_lines.Goals as goal
 
 pub loop-count-init : goal.loop-count-init
-loop-count-init c = (omega arith, refl, storing-none _ _)
+loop-count-init c = record { listing = refl; long = refl; storing = storing-none _ _ }
 
-pub returns-then-listing-at : goal.returns-then-listing-at
-returns-then-listing-at c =
-    let a = c.args in
+pub returns-then-c-listing : goal.returns-then-c-listing
+returns-then-c-listing c =
     let l = c.loop-count in
-    stored-end a.listing.now a.work.now l.work l.count l.at l.invariant.2 c.if-listing-at.true (omega arith)
+    stored-end c.args.listing.now c.args.work.now l.work l.count l.c.at l.invariant.storing c.if-c-listing.true (omega arith)
 
-pub returns-then-next-eq0 : goal.returns-then-next-eq0
-returns-then-next-eq0 c =
-    let a = c.args in
+pub returns-in_default : goal.returns-in_default
+returns-in_default c =
     let l = c.loop-count in
-    stored-malformed a.listing.now a.work.now l.work l.count l.at l.invariant.2 c.if-listing-at.false c.store_line-next.ensures c.if-next-eq0.true (omega arith)
+    let here : l.c.at < length l.c.listing.now = omega (arith, ap length l.invariant.listing) in
+    let none = line-none l.c here (sym c.read_line.ensures ∙ c.in_default.is) in
+    stored-malformed c.args.listing.now c.args.work.now l.work l.count l.c.at l.invariant.storing (ap (λ s. line_at s l.c.at) (sym l.invariant.listing) ∙ none) (omega arith)
 
 pub loop-count-preserved : goal.loop-count-preserved
+unfolding with_row
 loop-count-preserved c =
-    let a = c.args in
     let l = c.loop-count in
-    let line = c.store_line-next in
-    (omega arith, line.auto.work ∙ l.invariant.1, storing-more a.listing.now a.work.now l.work l.count l.at l.invariant.2 line.ensures c.if-next-eq0.false)
-
-pub returns : goal.returns
-returns c =
-    let a = c.args in
-    let l = c.loop-count in
-    stored-full a.listing.now a.work.now l.work l.count l.at l.invariant.2 c.loop-count-test.false l.invariant.0
+    let here : l.c.at < length l.c.listing.now = omega (arith, ap length l.invariant.listing) in
+    let r = line-read l.c here (sym c.read_line.ensures ∙ c.in-Some.is) in
+    record {
+      listing = ap (λ d. d.listing.now) r.cursor ∙ l.invariant.listing;
+      long = c.store_row.auto.table ∙ l.invariant.long;
+      storing = storing-more c.args.listing.now c.args.work.now l.work l.count l.c.at l.invariant.storing (ap (λ s. line_at s l.c.at) (sym l.invariant.listing) ∙ r.stands) (c.store_row.ensures ∙ ap (λ x. sets l.work (l.count * row_words) (words_of x)) r.row_is);
+    }

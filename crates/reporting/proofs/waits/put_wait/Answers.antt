@@ -1,20 +1,14 @@
-use native.Mathlib.Omega.{arith}
-use mathlib.Core.Path.{sym, ◌∙◌}
-use Rattle.output.proofs.Laws.{room_as, wrote_nothing}
-use Rattle.reporting.proofs.Chains.{wrote-under}
+use Rattle.std.proofs.Common.{sym, ap, ◌∙◌, subst}
 use Rattle.reporting.proofs.WaitLines.{no_line, one_line}
 use Rattle.reporting.proofs.waits.put_wait.Goals as goal
 
 pub put_line-requires : goal.put_line-requires
-put_line-requires c =
-    room_as (one_line c.args.i _ (sym c.wait_in-found.ensures ∙ c.in-Number.is)) (omega arith) c.requires.2
+put_line-requires g c = subst (g.S.Sink.fits c.args.sink.now) (one_line c.args.i _ (sym c.wait_in.ensures ∙ c.in-Some.is)) c.requires.room
 
-pub returns-in-Nothing : goal.returns-in-Nothing
-returns-in-Nothing c =
-    let a = c.args in
-    wrote-under (sym (no_line a.i (sym c.wait_in-found.ensures ∙ c.in-Nothing.is))) (omega arith) (wrote_nothing a.writing a.output.now a.at)
+pub returns-in-Some : goal.returns-in-Some
+returns-in-Some g c = c.put_line.ensures ∙ ap (g.S.Sink.after c.args.sink.now) (sym (one_line c.args.i _ (sym c.wait_in.ensures ∙ c.in-Some.is)))
 
-pub returns-in-Number : goal.returns-in-Number
-returns-in-Number c =
-    let a = c.args in
-    wrote-under (sym (one_line a.i _ (sym c.wait_in-found.ensures ∙ c.in-Number.is))) (omega arith) c.put_line.ensures
+pub returns-in_default : goal.returns-in_default
+returns-in_default g c =
+    let none = no_line c.args.i (sym c.wait_in.ensures ∙ c.in_default.is) in
+    sym (g.S.Sink.laws.nothing _ (subst (g.S.Sink.fits c.args.sink.now) none c.requires.room)) ∙ ap (g.S.Sink.after c.args.sink.now) (sym none)

@@ -1,12 +1,9 @@
-use Prim.Native.Nat.{◌-◌, ◌≤◌}
-use mathlib.Core.Path.{◌≡◌}
+use Rattle.std.proofs.Common.{List, ℕ, ◌≡◌}
+use lib.ListN.{drop}
 use Rattle.rules.specs.Unused.{unused_all}
-use Rattle.tables.specs.State.{tables_of}
-use Rattle.tables.proofs.Leaving.{Left}
+use Rattle.tables.specs.State.{tables_of, Ready}
 use Rattle.tables.proofs.unused.check_unused.Given as goal
 
+-- what is left to ask is what was to be asked
 abbrev pub invariant-loop-p : goal.invariant-loop-p
-invariant-loop-p l = (l.p ≤ l.d.count) × (Left l.listing l.table l.d l.rows l.taken l.p ≡ unused_all (tables_of l.listing l.table l.d l.rows l.taken))
-
-abbrev pub decreases-loop-p : goal.decreases-loop-p
-decreases-loop-p l = l.d.count - l.p
+invariant-loop-p l = (s : List ℕ) → Ready s l.table l.fn.d l.paths → unused_all (drop l.p (tables_of s l.table l.fn.d l.paths)) ≡ unused_all (tables_of s l.table l.fn.d l.paths)

@@ -1,0 +1,5 @@
+use Rattle.lent_path.proofs.Laws.{kept-by}
+use Rattle.lent_path.proofs.bithoven_transfer.Goals as goal
+
+pub returns : goal.returns
+returns c = kept-by c.transfer_at-walked.ensures c.store.ensures.answer c.store.ensures.left

@@ -1,4 +1,0 @@
-use Rattle.verdicts.proofs.without_text.Goals as goal
-
-pub returns : goal.returns
-returns c = cc
