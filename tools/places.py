@@ -9,7 +9,7 @@ import sys
 FILES = sorted(glob.glob("crates/*/src/**/*.rt", recursive=True))
 NONE = "Failed Missing Nothing Unknown Over Other Stop Malformed Fault Refused Err Cut Accepted".split()
 NUMBERS = r"^(?:pub )?const ([A-Z_]+): (?:u8|u32|usize) = (.*);"
-PAIRS = ["listing at", "listing table", "work i", "output writing at", "lines left", "d rows taken", "taken out", "places taken",
+PAIRS = ["listing at", "listing table", "work i", "output writing at", "lines left", "listed left", "d rows taken", "taken out", "places taken",
          "rehearsal due answer", "path due", "input t", "loc x", "first count"]
 
 
@@ -23,7 +23,7 @@ def enums(text):
         yield m, m.group(1), [re.match(r"    (\w+)", line).group(1) for line in lines], any("(" in line for line in lines)
 
 
-FUNCTION = re.compile(r"""^(?P<indent>\ *)(?:pub\ )?(?:const\ )?(?:extern\ "C"\ )?fn\ (?P<name>\w+)(?:<.*?>)?\((?P<parameters>.*?)\)
+FUNCTION = re.compile(r"""^(?P<indent>\ *)(?:pub\ )?(?:const\ )?(?:extern\ "C"\ )?fn\ (?P<name>\w+)(?:<.*?>)?\((?P<parameters>(?:[^()]|\([^()]*\))*)\)
     (?:(?P<answer>(?:\ ->\ [^{\n]+)?)\ (?P<plain>\{\n.*?^(?P=indent)\})
     |(?P<clauses>.*?)^(?P=indent)(?P<body>\{\n.*?^(?P=indent)\}|\{\}|\{\ .*\ \}$))""", re.M | re.S | re.X)
 
@@ -124,7 +124,7 @@ def point_6():
         text = read(path)
         for m in re.finditer(r"^.*\b(\w+): \[(?:u8|u32|NamePlace|\[NamePlace; 32\]); \w+\],?$", text, re.M):
             yield at(path, text, m.start(), m.group(0).strip())
-        for m in re.finditer(r"^.*let mut (\w+) = \[[^\]]*; \d+\];", text, re.M):
+        for m in re.finditer(r"^.*let mut (\w+) = \[[^\]]*; (?:\d+|WORK_WORDS|LENT)\];", text, re.M):
             yield at(path, text, m.start(), m.group(0).strip())
         for m in re.finditer(r"^    pub at: usize,\n    pub len: usize,", text, re.M):
             yield at(path, text, m.start(), "a position and a length")
@@ -135,7 +135,7 @@ def point_7():
         text = read(path)
         for m, name, named, clauses, body in functions(text):
             for p, t in named.items():
-                if (t == "bool" and p in ("writing",)) or t in ("Turn", "Wanted") or (t == "u32" and p == "letter") or (t == "Type" and name.startswith("check_")):
+                if (t == "bool" and p in ("writing",)) or t in ("Turn", "Turn<'_>", "Wanted") or (t == "u32" and p == "letter") or (t == "Type" and name.startswith("check_")):
                     yield at(path, text, m.start(), f"fn {name} goes by `{p}: {t}`")
 
 

@@ -7,10 +7,9 @@ use mathlib.Core.Option.{some}
 use mathlib.Core.Path.{◌≡◌, refl, sym, ap, ◌∙◌}
 use borrow.Author.Tests.{ltb-true, ltb-false}
 use lib.Dec.{ltb}
-use lib.ListN.{length, get_or, get_elem?, get_or-eq_default}
+use lib.ListN.{get_elem?, get_or-eq_default}
 use Rattle.std.specs.Prelude.{Ok}
 use Rattle.rules.proofs.Basics.{Ok-injective}
-use Rattle.rules.specs.Result.{Result}
 use Rattle.rules.specs.Table.{Table}
 use Rattle.paths.specs.declared.Path.{Path}
 use Rattle.paths.specs.Path.{table_of}

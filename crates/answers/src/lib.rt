@@ -4,7 +4,7 @@
 ghost use Rattle.std.specs.Prelude.{◌≡◌, List, ℕ};
 ghost use Rattle.turns.specs.State.{DueInside};
 ghost use Rattle.answers.specs.Numbers.{numbers_of};
-ghost use Rattle.answers.specs.Rehearsals.{rehearsal_numbers, Puts};
+ghost use Rattle.answers.specs.Rehearsals.{rehearsal_in, rehearsal_numbers, Puts};
 
 use ast::CompileError;
 use turns::{Rehearsal, Rehearsed};
@@ -17,6 +17,16 @@ pub fn numbers_of(answer: Result<(), CompileError>) -> [u32; 5]
     match answer {
         Ok(()) => [0; 5],
         Err(CompileError { loc, kind }) => [kind.into(), loc.start, loc.end, loc.line, loc.column],
+    }
+}
+
+// The rehearsal that two numbers are: its path, and the position due.
+pub fn rehearsal_in(numbers: &[u32; 2]) -> Rehearsal
+    ensures { result ≡ rehearsal_in numbers.now }
+{
+    Rehearsal {
+        path: numbers[0],
+        due: numbers[1],
     }
 }
 

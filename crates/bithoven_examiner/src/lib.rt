@@ -14,6 +14,7 @@ use answers::numbers_of;
 use examiner::check;
 use examiner::name::name_place;
 use examiner::report::report;
+use rows::WORK_WORDS;
 
 mod rehearse; // rehearse.rt: rehearsing a witness
 
@@ -24,7 +25,7 @@ pub extern "C" fn bithoven_check(listing: &[u8], answer: &mut [u32; 5]) -> u32
     ensures answer_after { answer.new ≡ numbers_of (check_of listing.now work_words) }
     ensures variant { (result ≡ 0) ↔ InOrder listing.now work_words }
 {
-    let mut work: [u32; 16384] = [0; 16384];
+    let mut work = [0u32; WORK_WORDS];
     *answer = numbers_of(check(listing, &mut work));
     answer[0]
 }
@@ -37,7 +38,7 @@ pub extern "C" fn bithoven_report(listing: &[u8], output: &mut [u8], answer: &mu
     ensures output_after { output.new ≡ output_after listing.now work_words output.old }
     ensures output_after_2 { (result ≡ 0 → ⊥) → take 2 output.new ≡ opening (check_of listing.now work_words) }
 {
-    let mut work: [u32; 16384] = [0; 16384];
+    let mut work = [0u32; WORK_WORDS];
     let r = report(listing, &mut work, output);
     *answer = numbers_of(r.answer);
     r.length
@@ -55,7 +56,7 @@ pub extern "C" fn bithoven_name(
     ensures value { result ≡ get_or (numbers_of (check_of listing.now work_words)) 0 0 }
     ensures place_after { place.new ≡ place_numbers (name_of listing.now work_words path position) }
 {
-    let mut work: [u32; 16384] = [0; 16384];
+    let mut work = [0u32; WORK_WORDS];
     *place = [0; 2];
     match name_place(listing, &mut work, path, position) {
         Ok(Some(x)) => {

@@ -4,24 +4,24 @@ ghost use Rattle.rehearsal.specs.Rehearse.{opened, laid, taken_back};
 ghost use Rattle.rehearsal.specs.Acts.{turned};
 ghost use Rattle.answers.specs.Rehearsals.{rehearsal_in, Leaves};
 
-use answers::put_rehearsed;
+use answers::{put_rehearsed, rehearsal_in};
 use rehearsal::rehearse;
+use rows::WORK_WORDS;
 use turns::{Rehearsal, Turn};
 
 // A turn on a rehearsal, in numbers. The three functions below come here, so that the optimizer sees one use of work memory.
 fn answer_turn(
     listing: &[u8],
     r: Rehearsal,
-    turn: Turn,
-    name: &[u8],
+    turn: Turn<'_>,
     rehearsal: &mut [u32; 2],
     due: &mut [u32; 4],
     answer: &mut [u32; 5],
 ) -> u32
-    ensures { Leaves (turned listing.now work_words r turn name.now) rehearsal.old due.old result rehearsal.new due.new answer.new }
+    ensures { Leaves (turned listing.now work_words r turn.entry) rehearsal.old due.old result rehearsal.new due.new answer.new }
 {
-    let mut work: [u32; 16384] = [0; 16384];
-    let x = rehearse(listing, &mut work, r, turn, name);
+    let mut work = [0u32; WORK_WORDS];
+    let x = rehearse(listing, &mut work, r, turn);
     put_rehearsed(rehearsal, due, answer, x);
     answer[0]
 }
@@ -38,7 +38,7 @@ pub extern "C" fn bithoven_rehearse_open(
     ensures { Leaves (opened listing.now work_words path) rehearsal.old due.old result rehearsal.new due.new answer.new }
 {
     let r = Rehearsal { path, due: 0 };
-    answer_turn(listing, r, Turn::Open, b"", rehearsal, due, answer)
+    answer_turn(listing, r, Turn::Open, rehearsal, due, answer)
 }
 
 // Lay: 0 with the rehearsal to go on with and the item due then, else the number of the refusal.
@@ -53,11 +53,8 @@ pub extern "C" fn bithoven_rehearse_lay(
 ) -> u32
     ensures { Leaves (laid listing.now work_words (rehearsal_in rehearsal.old) (record { name = name.entry.now; ty = ty })) rehearsal.old due.old result rehearsal.new due.new answer.new }
 {
-    let r = Rehearsal {
-        path: rehearsal[0],
-        due: rehearsal[1],
-    };
-    answer_turn(listing, r, Turn::Lay(ty), name, rehearsal, due, answer)
+    let r = rehearsal_in(rehearsal);
+    answer_turn(listing, r, Turn::Lay(name, ty), rehearsal, due, answer)
 }
 
 // Take back: 0 with the rehearsal to go on with and the item due then, else the number of the refusal.
@@ -70,9 +67,6 @@ pub extern "C" fn bithoven_rehearse_take_back(
 ) -> u32
     ensures { Leaves (taken_back listing.now work_words (rehearsal_in rehearsal.old)) rehearsal.old due.old result rehearsal.new due.new answer.new }
 {
-    let r = Rehearsal {
-        path: rehearsal[0],
-        due: rehearsal[1],
-    };
-    answer_turn(listing, r, Turn::TakeBack, b"", rehearsal, due, answer)
+    let r = rehearsal_in(rehearsal);
+    answer_turn(listing, r, Turn::TakeBack, rehearsal, due, answer)
 }

@@ -1,252 +1,212 @@
 -- The statements of a block: what the walk over them answers, from what its steps answer.
-use Prim.Native.Nat.{ℕ, suc, ◌+◌, ◌-◌, ◌≤◌, ◌<◌}
-use native.Mathlib.Numerals.{add-one}
-use native.Mathlib.Omega.{arith}
-use mathlib.Core.Bool.{Bool, true, false}
-use mathlib.Core.List.{List}
-use mathlib.Core.Option.{some}
-use mathlib.Core.Path.{◌≡◌, refl, sym, ap, ◌∙◌, subst}
-use lib.ListN.{set, get_elem?}
-use Rattle.std.specs.Prelude.{Ok, Err, IsErrAnd}
+use Rattle.std.proofs.Common.{ℕ, suc, ◌+◌, ◌-◌, ◌≤◌, ◌<◌, Bool, true, false, List, set, ◌≡◌, refl, sym, ap, ap₂, subst₂, ◌∙◌, Ok, Err, IsErrAnd, arith}
 use Rattle.std.proofs.lemmas.Result.{err_from_is_err_and}
-use Rattle.ast.specs.declared.Target.{Target}
-use Rattle.ast.specs.declared.Location.{Location}
-use Rattle.ast.specs.declared.CompileError.{CompileError}
-use Rattle.ast.specs.Tree.{Expression, Statement, IfStatement, IfElseStatement, Block, []ᵇ, ◌∷ᵇ◌}
-use Rattle.listing.specs.declared.Line.{Line}
-use Rattle.listing.specs.declared.StatementLine.{StatementLine}
+use Rattle.reader.specs.Ast.{Location, StatementLine, Line, CompileError, Expression, Statement, Block}
 use Rattle.reader.specs.Spells.{SpellsExpression, SpellsStatement, SpellsBlock, SpellsStatements}
-use Rattle.reader.proofs.Inversion.{StatementFrom}
-use Rattle.reader.proofs.Agree.{block_on, expression-on, statements-on}
-use Rattle.nodes.specs.Stands.{StatementAt, BlockAt}
-use Rattle.nodes.proofs.Laws.{below}
 use Rattle.rows.specs.Rows.{line_in}
+use Rattle.nodes.specs.Stands.{ExpressionAt, StatementAt, BlockAt, StatementsAt}
+use Rattle.nodes.proofs.Laws.{below, at_row}
+use Rattle.flow.proofs.Statements.{after_is, after-if, block-statements, statements-more, statements-none, statements-stand, first-stands, others-stand, others-after, condition-stands, block-stands, else-stands}
 use Rattle.rules.specs.Result.{Result, Checked, ◌>>=◌}
 use Rattle.rules.specs.Table.{Table}
-use Rattle.rules.proofs.Basics.{Ok-injective}
-use Rattle.rules.proofs.Using.{bind-cong, bind_ok}
+use Rattle.rules.proofs.Basics.{Ok-injective, bound}
 use Rattle.paths.specs.declared.Path.{Path}
 use Rattle.paths.specs.Path.{table_of, WellFormed}
-use Rattle.std.proofs.lemmas.List.{get_or-set_same}
 use Rattle.usage.specs.declared.Used.{Used}
 use Rattle.declarations.specs.declared.Declared.{Declared}
 use Rattle.tables.specs.Held.{Held, walk_held, statement_held, examine_held, cross_held}
 use Rattle.tables.specs.State.{tables_of, Ready}
-use Rattle.tables.proofs.Held.{held_cons, held_none, held-last, held-if, held-else}
+use Rattle.tables.proofs.Held.{held_cons, held_none, held-if, held-else}
 use Rattle.tables.proofs.State.{enough, in_use, tables-set, table-at, element-set}
 use Rattle.statements.specs.declared.Step.{Step}
 use Rattle.statements.specs.declared.Walk.{Walk}
-use Rattle.statements.specs.Steps.{examined, stays, Told}
-use Rattle.statements.specs.Walks.{resumed, leaving, held_of, held_in, Moved, Tried, Stepped}
-use Rattle.statements.proofs.Walking.{stepped-on}
+use Rattle.statements.specs.Steps.{examined, Told}
+use Rattle.statements.specs.Walks.{resumed, turned, leaving, held_of, held_in, Moved, Tried, Stepped}
+use Rattle.statements.proofs.Walking.{at_next, stepped-on, tried-is}
 
--- one statement, and those after it
-pub record ConsStatements (L : ℕ → Line) (s : List ℕ) (k i : ℕ) (b : Block) (j : ℕ) : Type 0 where
-  pub head : Statement
-  pub tail : Block
-  pub mid : ℕ
-  pub is : b ≡ head ∷ᵇ tail
-  pub spells : SpellsStatement L s i head mid
-  pub rest : SpellsStatements L s k mid tail j
+-- what the rules make of a block, on from what is held
+abbrev block_from : Declared → Held → Block → Result Held
+block_from d h b = walk_held b d.target h.tables h.branch
 
-cons-statements : {L : ℕ → Line} {s : List ℕ} {k i j : ℕ} {b : Block} → SpellsStatements L s (suc k) i b j → ConsStatements L s k i b j
-cons-statements (SpellsStatements.cons u v) = record { head = _; tail = _; mid = _; is = refl; spells = u; rest = v }
+module _ (s t : List ℕ) (d : Declared) where
+  -- of each expression at l, statement or block that the rows spell where the walk goes on: P of what the rules make of it, and of the row after it
+  abbrev pub EachExpression : Walk → Location → (Result Held → ℕ → Type 0) → Type 0
+  EachExpression v l P = (e : Expression) (j : ℕ) → SpellsExpression (line_in t) s (v.next + 1) e j → P (examined d.target l e (tables_of s t d v.paths) v.branch) j
 
-no-statements : {L : ℕ → Line} {s : List ℕ} {n i j : ℕ} {b : Block} → n ≡ 0 → SpellsStatements L s n i b j → (b ≡ []ᵇ) × (i ≡ j)
-no-statements e SpellsStatements.nil = (refl, refl)
-no-statements e (SpellsStatements.cons u v) = absurd (omega arith)
+  abbrev pub EachStatement : Walk → (Result Held → ℕ → Type 0) → Type 0
+  EachStatement v P = (x : Statement) (j : ℕ) → SpellsStatement (line_in t) s v.next x j → P (statement_held x d.target (tables_of s t d v.paths) v.branch) j
 
--- in the middle of a block: `left` statements are left, and the walk over them from v is the block's
-pub record Going (s t : List ℕ) (d : Declared) (left j : ℕ) (whole : Result Held) (v : Walk) : Type 0 where
-  pub block : Block
-  pub spells : SpellsStatements (line_in t) s left v.next block j
-  pub same : walk_held block d.target (tables_of s t d v.paths) v.branch ≡ whole
+  abbrev pub EachBlock : Walk → (Result Held → ℕ → Type 0) → Type 0
+  EachBlock v P = (b : Block) (j : ℕ) → SpellsBlock (line_in t) s v.next b j → P (block_from d (held_of s t d v) b) j
 
-pub going-start : {s t : List ℕ} {d : Declared} {count i j : ℕ} {b : Block} (v : Walk) → SpellsStatements (line_in t) s count (suc i) b j → v.next ≡ i + 1 → Going s t d (count - 0) j (walk_held b d.target (tables_of s t d v.paths) v.branch) v
-going-start {s} {t} {d} {count} {i} {j} {b} v sp e =
-    let n : count - 0 ≡ count = omega arith in
-    record { block = b; spells = rw n (subst (λ k. SpellsStatements (line_in t) s count k b j) (sym (e ∙ add-one i)) sp); same = refl }
+  -- a step that passed: the rules come to the walk v, which goes on at row j
+  abbrev pub Passed : Walk → Result Held → ℕ → Type 0
+  Passed v w j = (w ≡ Ok (held_of s t d v)) × (v.next ≡ j) × Ready s t d v.paths
 
-module _ {s t : List ℕ} {d : Declared} {count k j : ℕ} {whole : Result Held} {v : Walk} (h : Going s t d (count - k) j whole v) where
+  -- in the middle of the block at the row of v₀: n of its statements are left, and the walk is v
+  pub record Midway (n : ℕ) (v₀ v : Walk) : Type 0 where
+    pub past : v₀.next < v.next
+    pub ready : Ready s t d v.paths
+    pub stand : StatementsAt s t n v.next
+    pub spelled : EachBlock v₀ (λ w j. (b : Block) × SpellsStatements (line_in t) s n v.next b j × (w ≡ block_from d (held_of s t d v) b))
+
+  -- at the block of an if at l, which stands at the row of v: its condition took u, and the walk is v'
+  pub record Entered (v : Walk) (l : Location) (h : Bool) (u : Used) (v' : Walk) : Type 0 where
+    pub stand : StatementAt s t v.next
+    pub ready : Ready s t d v.paths
+    pub line : line_in t v.next ≡ Line.Statement (StatementLine.IfStatement l h)
+    pub result : Result Used
+    pub tried : EachExpression v l (λ w j. Tried s t d w j v result)
+    pub was : result ≡ Ok u
+    pub on : v' ≡ resumed v u
+
+  -- at the step from that block to the else-block: the walk is v₂
+  pub record Crossing (v : Walk) (l : Location) (h : Bool) (u : Used) (v' v₂ : Walk) : Type 0 where
+    pub entered : Entered v l h u v'
+    pub other : h ≡ true
+    pub passed : EachBlock v' (Passed v₂)
+
+-- what a step says that passed, or was refused
+module _ {s t : List ℕ} {d : Declared} {w : Result Held} {j : ℕ} where
+  passed : {r : Result Walk} {v : Walk} → Moved s t d w j r → r ≡ Ok v → Passed s t d v w j
+  passed {v = v} m e = (sym m.result ∙ ap (held_in s t d) e, (m.onward v e).0, (m.onward v e).1)
+
+  stopped : {r : Result Walk} {y : CompileError} → Moved s t d w j r → r ≡ Err y → w ≡ Err y
+  stopped m e = sym m.result ∙ ap (held_in s t d) e
+
+  pub moved-to : {r : Checked} {v : Walk} → Moved s t d w j (leaving r v) → {a : Unit {0}} → r ≡ Ok a → Passed s t d v w j
+  moved-to m e = passed m (rw e)
+
+  pub moved-stops : {r : Checked} (v : Walk) → Moved s t d w j (leaving r v) → {y : CompileError} → r ≡ Err y → w ≡ Err y
+  moved-stops v m e = stopped m (rw e)
+
+  pub moved-refused : (r : Checked) (v : Walk) {y : CompileError} → IsErrAnd r (λ z. z ≡ y) → w ≡ Err y → Moved s t d w j (leaving r v)
+  moved-refused r v h e = let (z, k, l) = err_from_is_err_and r h in record { result = rw (k, l, e); onward = λ u o. let n : Err z ≡ Ok u = rw k at o in cc }
+
+  module _ {A : Type 0} {n : ℕ} {go : A → Walk} {r : Result A} (m : Stepped s t d w j n go r) where
+    pub stepped-to : {a : A} → r ≡ Ok a → Passed s t d (go a) w j
+    stepped-to e = passed m.moved (rw e)
+
+    pub stepped-stops : {y : CompileError} → r ≡ Err y → w ≡ Err y
+    stepped-stops e = stopped m.moved (rw e)
+
+-- before the first statement of a block
+pub midway-start : {s t : List ℕ} {d : Declared} {v : Walk} {n : ℕ} → BlockAt s t v.next → Ready s t d v.paths → line_in t v.next ≡ Line.Block n → Midway s t d (n - 0) v (record v { next = v.next + 1 })
+midway-start {n = n} st r h = let e : n - 0 ≡ n = omega arith in rw e (record { past = omega arith; ready = r; stand = statements-stand st h; spelled = λ b j sp. (b, block-statements sp h, refl) })
+
+module _ {s t : List ℕ} {d : Declared} {count k : ℕ} {v₀ v : Walk} (M : Midway s t d (count - k) v₀ v) where
+  -- no statement is left
+  pub midway-end : count ≤ k → EachBlock s t d v₀ (λ w j. Moved s t d w j (Ok v))
+  midway-end z b j sp =
+      let (c, u, p) = M.spelled b j sp in
+      let (e, q) = statements-none u (omega arith) in
+      record { result = sym (p ∙ rw (q, held_none)); onward = λ v' o. let z : v ≡ v' = cc in rw (← z) (e, M.ready) }
+
+  -- the next statement: where it stands, and the walk if it is refused, and if it passed
   module _ (more : k < count) where
-    pub first : ConsStatements (line_in t) s (count - (k + 1)) v.next h.block j
-    first = let e : count - k ≡ suc (count - (k + 1)) = omega arith in cons-statements (subst (λ x. SpellsStatements (line_in t) s x v.next h.block j) e h.spells)
+    pub next-stands : StatementAt s t v.next
+    next-stands = first-stands M.stand (omega arith)
 
-    pub head-within : first.mid ≤ j
-    head-within = statements-on (line_in t) s first.rest
+    walks : EachBlock s t d v₀ (λ w j. (x : Statement) × (b : Block) × (m : ℕ) × SpellsStatement (line_in t) s v.next x m × SpellsStatements (line_in t) s (count - k - 1) m b j ×
+        (w ≡ (statement_held x d.target (tables_of s t d v.paths) v.branch >>= λ h. block_from d h b)))
+    walks b j sp =
+        let (c, u, p) = M.spelled b j sp in
+        let (x, b, m, y, z, q) = statements-more u (omega arith) in
+        (x, b, m, y, z, p ∙ ap (block_from d (held_of s t d v)) q ∙ held_cons x b d.target _ _)
 
-    -- the first statement that is left, from where the walk stands
-    abbrev pub head_held : Result Held
-    head_held = statement_held first.head d.target (tables_of s t d v.paths) v.branch
+    pub midway-stops : {y : CompileError} → EachStatement s t d v (λ w j. w ≡ Err y) → EachBlock s t d v₀ (λ w j. w ≡ Err y)
+    midway-stops f b j sp = let (x, b, m, y, z, p) = walks b j sp in p ∙ rw (f x m y)
 
-    walks : whole ≡ (head_held >>= λ w. walk_held first.tail d.target w.tables w.branch)
-    walks = sym h.same ∙ ap (λ b. walk_held b d.target (tables_of s t d v.paths) v.branch) first.is ∙ held_cons first.head first.tail d.target (tables_of s t d v.paths) v.branch
+    pub midway-on : {u : Walk} → EachStatement s t d v (Passed s t d u) → Midway s t d (count - (k + 1)) v₀ u
+    midway-on f =
+        let e : count - (k + 1) ≡ count - k - 1 = omega arith in
+        rw e (record {
+          past = omega (arith, M.past, others-after M.stand (omega arith) (λ x j u. (f x j u).1));
+          ready = (f _ _ next-stands.spells).2;
+          stand = others-stand M.stand (omega arith) (λ x j u. (f x j u).1);
+          spelled = λ b j sp. let (x, b, m, y, z, p) = walks b j sp in (b, at_row (SpellsStatements (line_in t) s (count - k - 1)) (f x m y).1 z, p ∙ rw (f x m y).0);
+        })
 
-    pub going-err : {x : CompileError} → head_held ≡ Err x → whole ≡ Err x
-    going-err e = walks ∙ rw e
+-- a statement whose expression is examined on the path in use
+module _ {s t : List ℕ} {d : Declared} {n : ℕ} {v₀ v : Walk} (M : Midway s t d n v₀ v) {r : Result Step} {a : Step} {l : Location}
+    (T : (x : Statement) (j : ℕ) → SpellsStatement (line_in t) s v.next x j → Told s t d v.branch x v.next j r) (e : r ≡ Ok a) (f : a ≡ Step.Examine l) where
+  pub told-stands : StatementAt s t v.next → ExpressionAt s t (v.next + 1)
+  told-stands st = below (SpellsExpression (line_in t) s) st (at_next (rw (e, f) at (T _ _ st.spells)).1) (omega arith)
 
-    pub going_on : (u : Walk) → head_held ≡ Ok (held_of s t d u) → u.next ≡ first.mid → Going s t d (count - (k + 1)) j whole u
-    going_on u e q = record { block = first.tail; spells = subst (λ i. SpellsStatements (line_in t) s (count - (k + 1)) i first.tail j) (sym q) first.rest; same = sym (walks ∙ rw e) }
+  pub told-examined : {q : Result Used} → EachExpression s t d v l (λ w j. Tried s t d w j v q) → EachStatement s t d v (λ w j. Stepped s t d w j v.branch (resumed v) q)
+  told-examined E x j sp = let (y, u, h, n) = rw (e, f) at (T x j sp) in stepped-on _ M.ready (tried-is (h v.paths (in_use v.branch M.ready)) (E y j (at_next u)))
 
-  -- nothing is left
-  pub going-end : count ≤ k → (Ok (held_of s t d v) ≡ whole) × (v.next ≡ j)
-  going-end z =
-      let (e, q) = no-statements (omega arith) h.spells in
-      (sym (sym h.same ∙ ap (λ b. walk_held b d.target (tables_of s t d v.paths) v.branch) e ∙ held_none d.target (tables_of s t d v.paths) v.branch), q)
+refused_bind : {A : Type 0} (m : Result A) (f : A → Held) {y : CompileError} → (m >>= λ a. Ok (f a)) ≡ Err y → m ≡ Err y
+refused_bind (Ok a) f h = cc
+refused_bind (Err x) f h = cc
 
-module _ {s t : List ℕ} {d : Declared} {w : Result Held} where
-  -- the same step under another name of its result
-  pub moved-is : {v : Result Held} {j k : ℕ} {r : Result Walk} → Moved s t d w j r → w ≡ v → j ≡ k → Moved s t d v k r
-  moved-is m e q = record { result = m.result ∙ e; onward = λ v o. ((m.onward v o).0 ∙ q, (m.onward v o).1) }
-
-  -- a step that is refused, whatever it leaves
-  pub moved-refused : (j : ℕ) (r : Checked) (v : Walk) {x : CompileError} → IsErrAnd r (λ y. y ≡ x) → w ≡ Err x → Moved s t d w j (leaving r v)
-  moved-refused j r v h e =
-      let (y, k, l) = err_from_is_err_and r h in
-      record { result = rw (k, l, e); onward = λ u o. let z : Err y ≡ Ok u = rw k at o in cc }
-
-  -- what a step says that passed, or was refused
-  module _ {j : ℕ} {r : Result Walk} (m : Moved s t d w j r) where
-    passed : {v : Walk} → r ≡ Ok v → (w ≡ Ok (held_of s t d v)) × (v.next ≡ j) × Ready s t d v.paths
-    passed {v} e = (sym m.result ∙ ap (held_in s t d) e, (m.onward v e).0, (m.onward v e).1)
-
-    stopped : {x : CompileError} → r ≡ Err x → w ≡ Err x
-    stopped e = sym m.result ∙ ap (held_in s t d) e
-
-  pub moved-to : {j : ℕ} {r : Checked} {v : Walk} → Moved s t d w j (leaving r v) → {a : Unit {0}} → r ≡ Ok a → (w ≡ Ok (held_of s t d v)) × (v.next ≡ j) × Ready s t d v.paths
-  moved-to {v = v} m e = passed m (ap (λ r. leaving r v) e)
-
-  pub moved-stops : {j : ℕ} {r : Checked} (v : Walk) → Moved s t d w j (leaving r v) → {x : CompileError} → r ≡ Err x → w ≡ Err x
-  moved-stops v m e = stopped m (ap (λ r. leaving r v) e)
-
-  module _ {A : Type 0} {j n : ℕ} {go : A → Walk} {r : Result A} (m : Stepped s t d w j n go r) where
-    pub stepped-to : {a : A} → r ≡ Ok a → (w ≡ Ok (held_of s t d (go a))) × ((go a).next ≡ j) × Ready s t d (go a).paths
-    stepped-to {a} e = passed m.moved (ap (λ r. r >>= λ a. Ok (go a)) e)
-
-    pub stepped-stops : {x : CompileError} → r ≡ Err x → w ≡ Err x
-    stepped-stops e = stopped m.moved (ap (λ r. r >>= λ a. Ok (go a)) e)
-
--- what a statement's step says, by its answer
-module _ {s t : List ℕ} {d : Declared} (n : ℕ) (x : Statement) (i j : ℕ) (r : Result Step) (T : Told s t d n x i j r) {paths : List Path} (ready : Ready s t d paths) where
-  abbrev one : Result Held
-  one = statement_held x d.target (tables_of s t d paths) n
-
-  pub told-err : {y : CompileError} → r ≡ Err y → one ≡ Err y
-  told-err e = subst (Told s t d n x i j) e T paths (in_use n ready)
-
-  pub told-pass : {a : Step} {m : ℕ} → r ≡ Ok a → a ≡ Step.Pass m → (m ≡ j) × (one ≡ stays n (tables_of s t d paths))
-  told-pass e f = let h = subst (Told s t d n x i j) (e ∙ ap Ok f) T in (h.0, h.1 paths (in_use n ready))
-
-  pub told-examine : {a : Step} {l : Location} → r ≡ Ok a → a ≡ Step.Examine l → (e : Expression) × SpellsExpression (line_in t) s (suc i) e j × (one ≡ examined d.target l e (tables_of s t d paths) n)
-  told-examine e f = let h = subst (Told s t d n x i j) (e ∙ ap Ok f) T in (h.0, h.1, h.2 paths (in_use n ready))
-
-  pub told-if : {a : Step} {l : Location} {o : Bool} → r ≡ Ok a → a ≡ Step.If l o → line_in t i ≡ Line.Statement (StatementLine.IfStatement l o)
-  told-if e f = subst (Told s t d n x i j) (e ∙ ap Ok f) T
-
--- an if, with an else or without: its condition and its block, and what the walk makes of them
-abbrev pub Rest : Bool → (ℕ → Line) → List ℕ → Location → Expression → Block → ℕ → Statement → ℕ → Type 0
-Rest false L s l e b m x j = (m ≡ j) × ((g : Target) (ts : List Table) (n : ℕ) (v : Table) → examine_held g l e ts n ≡ Ok v → statement_held x g ts n ≡ walk_held b g (set ts n v) n)
-Rest true L s l e b m x j = (c : Block) × SpellsBlock L s m c j × ((g : Target) (ts : List Table) (n : ℕ) (v : Table) → examine_held g l e ts n ≡ Ok v → statement_held x g ts n ≡ (walk_held b g (set ts n v) n >>= λ w. cross_held l v w >>= λ w'. walk_held c g w'.tables w'.branch))
-
-pub record IfParts (L : ℕ → Line) (s : List ℕ) (l : Location) (h : Bool) (i : ℕ) (x : Statement) (j : ℕ) : Type 0 where
-  pub cond : Expression
-  pub mid : ℕ
-  pub spells : SpellsExpression L s (i + 1) cond mid
-  pub block : Block
-  pub end : ℕ
-  pub inner : SpellsBlock L s mid block end
-  pub within : end ≤ j
-  pub stops : (g : Target) (ts : List Table) (n : ℕ) {y : CompileError} → examined g l cond ts n ≡ Err y → statement_held x g ts n ≡ Err y
-  pub rest : Rest h L s l cond block end x j
-
-examined-err : (g : Target) (l : Location) (e : Expression) (ts : List Table) (n : ℕ) {x : CompileError} → examined g l e ts n ≡ Err x → examine_held g l e ts n ≡ Err x
+-- an if whose condition is refused
+pub if-stops : {s t : List ℕ} {d : Declared} (v : Walk) {l : Location} {h : Bool} {q : Result Used} {y : CompileError} →
+    Ready s t d v.paths → line_in t v.next ≡ Line.Statement (StatementLine.IfStatement l h) → EachExpression s t d v l (λ w j. Tried s t d w j v q) → q ≡ Err y →
+    EachStatement s t d v (λ w j. w ≡ Err y)
 unfolding examined
-examined-err g l e ts n {x} h = go (examine_held g l e ts n) refl
-  where
-    go : (y : Result Table) → examine_held g l e ts n ≡ y → examine_held g l e ts n ≡ Err x
-    go (Ok v) q = let f : ◌≡◌ {A = Result Held} (Ok (record { tables = set ts n v; branch = n })) (Err x) = rw q at h in cc
-    go (Err y) q = let f : ◌≡◌ {A = Result Held} (Err y) (Err x) = rw q at h in let a : y ≡ x = cc in q ∙ ap Err a
+if-stops v {h = false} r q f o x j sp = let (e, b, k, m, u, i, le, (n, p)) = after_is sp q refl in rw (p, held-if, refused_bind _ _ (stepped-stops (stepped-on _ r (f e k u)) o))
+if-stops v {h = true} r q f o x j sp = let (e, b, k, m, u, i, le, (c, n, p)) = after_is sp q refl in rw (p, held-else, refused_bind _ _ (stepped-stops (stepped-on _ r (f e k u)) o))
 
-pub if-parts : (L : ℕ → Line) (s : List ℕ) (l : Location) (h : Bool) (i : ℕ) (x : Statement) (j : ℕ) → StatementFrom L s (StatementLine.IfStatement l h) i x j → IfParts L s l h i x j
-if-parts L s l false i x j (a, b, k, u, v, e) = record {
-  cond = a;
-  mid = k;
-  spells = subst (λ m. SpellsExpression L s m a k) (sym (add-one i)) u;
-  block = b;
-  end = j;
-  inner = v;
-  within = omega arith;
-  stops = λ g ts n q. ap (λ x. statement_held x g ts n) e ∙ held-if l a b g ts n ∙ rw (examined-err g l a ts n q);
-  rest = (refl, λ g ts n v p. ap (λ x. statement_held x g ts n) e ∙ held-if l a b g ts n ∙ rw p);
-}
-if-parts L s l true i x j (a, b, c, k, m, u, v, w, e) = record {
-  cond = a;
-  mid = k;
-  spells = subst (λ m. SpellsExpression L s m a k) (sym (add-one i)) u;
-  block = b;
-  end = m;
-  inner = v;
-  within = omega (arith, block_on L s w);
-  stops = λ g ts n q. ap (λ x. statement_held x g ts n) e ∙ held-else l a b c g ts n ∙ rw (examined-err g l a ts n q);
-  rest = (c, w, λ g ts n v p. ap (λ x. statement_held x g ts n) e ∙ held-else l a b c g ts n ∙ rw p);
-}
+-- an if whose condition passed: the path that it took, where its block stands, and what the walk of that block says of it
+module _ {s t : List ℕ} {d : Declared} {v v' : Walk} {l : Location} {h : Bool} {u : Used} (K : Entered s t d v l h u v') where
+  came : EachExpression s t d v l (Passed s t d v')
+  came e j sp = rw K.on (stepped-to (stepped-on _ K.ready (K.tried e j sp)) K.was)
 
--- a condition that passed: its path's table is the one after it
-module _ {s t : List ℕ} {d : Declared} (v : Walk) (r : Ready s t d v.paths) (within : v.branch < d.count) (l : Location) (e : Expression) (p : Path) (next : ℕ) (h : examined d.target l e (tables_of s t d v.paths) v.branch ≡ Ok (held_of s t d (resumed v (record { path = p; next = next })))) where
-  pub conditioned : examine_held d.target l e (tables_of s t d v.paths) v.branch ≡ Ok (table_of s t p)
+  pub entered-used : WellFormed s t u.path × (v.branch < d.count)
+  entered-used = let o = (K.tried _ _ (condition-stands K.stand K.line refl).spells).onward u K.was in (o.1.formed, o.2)
+
+  pub entered-stands : (v.next < v'.next) × (BlockAt s t v'.next × Ready s t d v'.paths)
+  entered-stands = let (on, at) = block-stands K.stand K.line refl (λ e j sp. (came e j sp).1) in (on, (at, (came _ _ (condition-stands K.stand K.line refl).spells).2))
+
+  -- what follows goes on with the condition's table, which is that of its path
+  goes_on : (F : Table → Held → Result Held) (e : Expression) (j : ℕ) → SpellsExpression (line_in t) s (v.next + 1) e j →
+      (examine_held d.target l e (tables_of s t d v.paths) v.branch >>= λ a. F a (record { tables = set (tables_of s t d v.paths) v.branch a; branch = v.branch })) ≡ F (table_of s t u.path) (held_of s t d v')
   unfolding examined
-  conditioned = go (examine_held d.target l e ts v.branch) refl
-    where
-      ts : List Table
-      ts = tables_of s t d v.paths
+  goes_on F e j sp =
+      let b = bound (examine_held d.target l e (tables_of s t d v.paths) v.branch) _ (came e j sp).0 in
+      let f = Ok-injective b.then in
+      let on = ap (λ (h : Held). h.tables) f ∙ ap (λ (w : Walk). tables_of s t d w.paths) K.on ∙ tables-set s t d v.paths (enough K.ready) entered-used.1 u.path in
+      let here = table-at s t d v.paths (enough K.ready) v.branch entered-used.1 in
+      let o : b.value ≡ table_of s t u.path = cc (on, element-set _ v.branch b.value _ here, element-set _ v.branch (table_of s t u.path) _ here) in
+      rw b.first (ap₂ F o f)
 
-      go : (y : Result Table) → examine_held d.target l e ts v.branch ≡ y → examine_held d.target l e ts v.branch ≡ Ok (table_of s t p)
-      go (Err x) q = let f : ◌≡◌ {A = Result Held} (Err x) (Ok (held_of s t d (resumed v (record { path = p; next = next })))) = rw q at h in cc
-      go (Ok u) q =
-          let f : ◌≡◌ {A = Result Held} (Ok (record { tables = set ts v.branch u; branch = v.branch })) (Ok (held_of s t d (resumed v (record { path = p; next = next })))) = rw q at h in
-          let g : set ts v.branch u ≡ tables_of s t d (set v.paths v.branch p) = ap (λ w. w.tables) (Ok-injective f) in
-          let at = table-at s t d v.paths (enough r) v.branch within in
-          let same : some u ≡ some (table_of s t p) = sym (element-set ts v.branch u _ at) ∙ ap (λ l. get_elem? l v.branch) (g ∙ tables-set s t d v.paths (enough r) within p) ∙ element-set ts v.branch (table_of s t p) _ at in
-          let o : u ≡ table_of s t p = cc in
-          q ∙ ap Ok o
+  pub if-only : h ≡ false → {r : Result Walk} → EachBlock s t d v' (λ w j. Moved s t d w j r) → EachStatement s t d v (λ w j. Moved s t d w j r)
+  if-only o {r} m x j sp =
+      let (e, b, k, n, c, i, le, (z, p)) = after-if sp K.line refl o in
+      let is = ap (λ x. statement_held x d.target (tables_of s t d v.paths) v.branch) p ∙ held-if l e b d.target _ _ ∙ goes_on (λ a h. block_from d h b) e k c in
+      subst₂ (λ w j. Moved s t d w j r) (sym is) z (m b n (at_row (SpellsBlock (line_in t) s) (came e k c).1 i))
 
--- an if at l whose condition passed, on the path in use: the walk is v', and the path is that of u
-module _ {s t : List ℕ} {d : Declared} (v : Walk) (r : Ready s t d v.paths) (l : Location) (h : Bool) (x : Statement) (j : ℕ) (P : IfParts (line_in t) s l h v.next x j) (q : Result Used) (m : Tried s t d (examined d.target l P.cond (tables_of s t d v.paths) v.branch) P.mid v q) {u : Used} (e : q ≡ Ok u) {v' : Walk} (k : v' ≡ resumed v u) where
-  pub on-next : v'.next ≡ P.mid
-  on-next = ap (λ w. w.next) k ∙ (stepped-to (stepped-on q r m) e).1
+  -- with an else: its two blocks, and what the rules make of it
+  parts : h ≡ true → EachStatement s t d v (λ w j. (b : Block) × (k : ℕ) × (c : Block) × SpellsBlock (line_in t) s v'.next b k × SpellsBlock (line_in t) s k c j ×
+      (w ≡ (block_from d (held_of s t d v') b >>= λ h. cross_held l (table_of s t u.path) h >>= λ h. block_from d h c)))
+  parts o x j sp =
+      let (e, b, k, n, a, i, le, (c, y, p)) = after-if sp K.line refl o in
+      let after = goes_on (λ a h. block_from d h b >>= λ h. cross_held l a h >>= λ h. block_from d h c) e k a in
+      (b, n, c, at_row (SpellsBlock (line_in t) s) (came e k a).1 i, y, ap (λ x. statement_held x d.target (tables_of s t d v.paths) v.branch) p ∙ held-else l e b c d.target _ _ ∙ after)
 
-  pub on-ready : Ready s t d v'.paths
-  on-ready = subst (λ (w : Walk). Ready s t d w.paths) (sym k) (stepped-to (stepped-on q r m) e).2
+  pub block-stops : h ≡ true → {r : Checked} (v₂ : Walk) → EachBlock s t d v' (λ w j. Moved s t d w j (leaving r v₂)) → {y : CompileError} → r ≡ Err y → EachStatement s t d v (λ w j. w ≡ Err y)
+  block-stops o v₂ m e x j sp = let (b, k, c, i, y, p) = parts o x j sp in p ∙ rw (moved-stops v₂ (m b k i) e)
 
-  -- its block stands at the next row, which is further on
-  pub on-block : (st : StatementAt s t v.next) → j ≤ st.next → BlockAt s t v'.next × (v.next < v'.next)
-  on-block st i = (subst (BlockAt s t) (sym on-next) (below (SpellsBlock (line_in t) s) st P.inner (omega (arith, P.within))), omega (arith, on-next, expression-on (line_in t) s P.spells))
+-- from there on: the step is refused, or passes, and the else-block is walked on the next path
+module _ {s t : List ℕ} {d : Declared} {v v' v₂ : Walk} {l : Location} {h : Bool} {u : Used} (K : Crossing s t d v l h u v' v₂) where
+  pub crossing-ready : Ready s t d v₂.paths
+  crossing-ready = (K.passed _ _ (entered-stands K.entered).1.0.spells).2
 
-  within : v.branch < d.count
-  within = (m.onward u e).2
+  module _ {q : Result Path} (C : Stepped s t d (cross_held l (table_of s t u.path) (held_of s t d v₂)) v₂.next (suc v₂.branch) (turned v₂) q) where
+    pub cross-stops : {y : CompileError} → q ≡ Err y → EachStatement s t d v (λ w j. w ≡ Err y)
+    cross-stops f x j sp = let (b, k, c, i, z, p) = parts K.entered K.other x j sp in p ∙ rw ((K.passed b k i).0, stepped-stops C f)
 
-  pub on-formed : WellFormed s t u.path
-  on-formed = subst (WellFormed s t) (get_or-set_same v.paths v.branch u.path _ (omega (arith, r.full, r.few, within))) ((stepped-to (stepped-on q r m) e).2.each v.branch within).formed
+    module _ {g : Path} (f : q ≡ Ok g) {v₃ : Walk} (n : v₃ ≡ turned v₂ g) where
+      crossed : Passed s t d v₃ (cross_held l (table_of s t u.path) (held_of s t d v₂)) v₂.next
+      crossed = rw n (stepped-to C f)
 
-  -- the condition's table, and the tables with it
-  table_is : examine_held d.target l P.cond (tables_of s t d v.paths) v.branch ≡ Ok (table_of s t u.path)
-  table_is = conditioned v r within l P.cond u.path u.next (stepped-to (stepped-on q r m) e).0
+      pub other-stands : (v.next < v₃.next) × (BlockAt s t v₃.next × Ready s t d v₃.paths)
+      other-stands =
+          let (on, at) = else-stands K.entered.stand K.entered.line refl (λ e j sp. (came K.entered e j sp).1) (λ b j sp. crossed.1 ∙ (K.passed b j sp).1) K.other in
+          (on, (at, crossed.2))
 
-  tables_are : walk_held P.block d.target (set (tables_of s t d v.paths) v.branch (table_of s t u.path)) v.branch ≡ walk_held P.block d.target (tables_of s t d v'.paths) v'.branch
-  tables_are = ap (λ ts. walk_held P.block d.target ts v.branch) (sym (tables-set s t d v.paths (enough r) within u.path)) ∙ ap (λ (w : Walk). walk_held P.block d.target (tables_of s t d w.paths) w.branch) (sym k)
-
-  abbrev whole : Result Held
-  whole = statement_held x d.target (tables_of s t d v.paths) v.branch
-
-  pub if-only : h ≡ false → (walk_held P.block d.target (tables_of s t d v'.paths) v'.branch ≡ whole) × (P.end ≡ j)
-  if-only o = let R = subst (λ h. Rest h (line_in t) s l P.cond P.block P.end x j) o P.rest in (sym (R.1 d.target _ _ _ table_is ∙ tables_are), R.0)
-
-  pub record Else : Type 0 where
-    pub other : Block
-    pub spells : SpellsBlock (line_in t) s P.end other j
-    pub is : whole ≡ (walk_held P.block d.target (tables_of s t d v'.paths) v'.branch >>= λ w. cross_held l (table_of s t u.path) w >>= λ w'. walk_held other d.target w'.tables w'.branch)
-
-  pub if-else : h ≡ true → Else
-  if-else o =
-      let R = subst (λ h. Rest h (line_in t) s l P.cond P.block P.end x j) o P.rest in
-      record { other = R.0; spells = R.1; is = R.2 d.target _ _ _ table_is ∙ ap (λ y. y >>= λ w. cross_held l (table_of s t u.path) w >>= λ w'. walk_held R.0 d.target w'.tables w'.branch) tables_are }
+      pub if-else : {r : Result Walk} → EachBlock s t d v₃ (λ w j. Moved s t d w j r) → EachStatement s t d v (λ w j. Moved s t d w j r)
+      if-else E x j sp =
+          let (b, k, c, i, y, p) = parts K.entered K.other x j sp in
+          rw (p, (K.passed b k i).0, crossed.0) (E c j (at_row (SpellsBlock (line_in t) s) (crossed.1 ∙ (K.passed b k i).1) y))

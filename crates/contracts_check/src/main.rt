@@ -5,7 +5,11 @@
 
 use anyhow::{Context, Result};
 use examiner::name::name;
-use records::{ReadError, Tally, print_cut_short, read_bytes, read_end, read_head, read_record};
+use records::{
+    LONGEST_LISTING, OUTPUT_BYTES, ReadError, Tally, print_cut_short, read_bytes, read_end,
+    read_head, read_record,
+};
+use rows::WORK_WORDS;
 use std::fs::File;
 use std::io;
 use std::io::Read;
@@ -16,15 +20,9 @@ const ASKED: u32 = 33;
 // No file's name is longer.
 const LONGEST_NAME: usize = 4096;
 
-// No listing of a record is longer.
-const LONGEST: usize = 32768;
-
-// The room for a report.
-const OUTPUT_BYTES: usize = 65536;
-
 // The report of a listing. Is it accepted?
 fn print_report(rt: &(impl Print + AllocGlobal), listing: &[u8]) -> io::Result<bool> {
-    let mut work = [0u32; 16384];
+    let mut work = [0u32; WORK_WORDS];
     let mut output = vec![in rt.alloc(); 0; OUTPUT_BYTES]?;
     let reported = examiner::report::report(listing, &mut work, &mut output);
     output.truncate(reported.length);
@@ -35,7 +33,7 @@ fn print_report(rt: &(impl Print + AllocGlobal), listing: &[u8]) -> io::Result<b
 // The names of a path's items, from the top.
 fn print_path(rt: &impl Print, listing: &[u8], path: u32) -> io::Result<()> {
     for position in 0..ASKED {
-        let mut work = [0u32; 16384];
+        let mut work = [0u32; WORK_WORDS];
         let name = name(listing, &mut work, path, position);
         if name.is_empty() {
             break;
@@ -78,7 +76,7 @@ fn examine_all(
         if !print_file(rt, input)? {
             break;
         }
-        let listing = read_record(input, rt.alloc(), LONGEST)?.ok_or(ReadError::CutShort)?;
+        let listing = read_record(input, rt.alloc(), LONGEST_LISTING)?.ok_or(ReadError::CutShort)?;
         examine(rt, &listing, tally)?;
     }
     Ok(())

@@ -1,12 +1,12 @@
 -- The items of a listing in its rows, and what Name answers.
-use Prim.Native.Nat.{ℕ, ◌+◌, ◌-◌, ◌≤◌}
+use Prim.Native.Nat.{ℕ, ◌+◌, ◌≤◌}
 use native.Mathlib.Omega.{arith}
 use mathlib.Core.List.{List, [], map}
 use mathlib.Core.Option
 use mathlib.Core.Option.{Option, some, none}
 use mathlib.Core.Path.{◌≡◌, refl, sym, ap, ◌∙◌, subst}
 use borrow.Author.Tests.{le-leb}
-use lib.ListN.{take, drop, get_or, get_elem?}
+use lib.ListN.{get_or, get_elem?}
 use Rattle.ast.specs.declared.Target.{Target}
 use Rattle.ast.specs.declared.CompileError.{CompileError}
 use Rattle.ast.specs.Tree.{StackParam, Contract, from_top}
@@ -20,6 +20,8 @@ use Rattle.rules.specs.Analyze.{analyze}
 use Rattle.rules.proofs.Basics.{Ok-injective}
 use Rattle.rows.specs.Rows.{line_in}
 use Rattle.std.specs.Prelude.{Ok, Err, Some, None, Option as StdOption, IsErrAnd}
+use Rattle.std.specs.Option.{option_flatten}
+use Rattle.std.specs.Result.{result_ok}
 use Rattle.std.proofs.lemmas.Result.{err_from_is_err_and}
 use Rattle.reader.specs.Ceilings.{max_bytes, max_lines}
 use Rattle.reader.specs.Source.{Source, source, Read, read, refused}
@@ -146,6 +148,15 @@ module _ (s : List ℕ) (words path position : ℕ) where
     a ∙ ap (λ c. named_by c (item_at s path position)) (sym (check-is s words is)),
     λ x o. let i = place_inside st d path position (answer (analyze c)) x (sym a ∙ o) in (i, omega (arith, i, st.rows.short)),
   )
+
+-- the place there is, of an answer
+pub flat-some : (q : Result (StdOption Place)) {o : StdOption Place} {x : Place} → o ≡ option_flatten (result_ok q) → o ≡ Some x → q ≡ Ok (Some x)
+flat-some (Ok (Some y)) e g = ap Ok (sym e ∙ g)
+flat-some (Ok None) {x = x} e g = let z : None ≡ Some x = sym e ∙ g in cc
+flat-some (Err y) {x = x} e g = let z : None ≡ Some x = sym e ∙ g in cc
+
+pub flat-none : {q : Result (StdOption Place)} {o : StdOption Place} → o ≡ option_flatten (result_ok q) → o ≡ None → (x : Place) → q ≡ Ok (Some x) → ⊥
+flat-none e g x h = let z : None ≡ Some x = sym g ∙ e ∙ ap (λ q. option_flatten (result_ok q)) h in cc
 
 -- the bytes of the part that the place names, and no bytes where there is none
 module _ (s : List ℕ) (words path position : ℕ) {r : Result (StdOption Place)} (e : r ≡ named s words path position) where

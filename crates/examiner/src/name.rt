@@ -33,10 +33,7 @@ fn place_in_rows(
     ensures { (c : Contract) (ps : List (List Item)) → SpellsContract (line_in rows.now.table.now) rows.now.listing.now c n → Declares rows.now.table.now ps → result ≡ named_by (answer (analyze_of c)) (item_at ps path position) }
 {
     analyze_rows(rows, n, d)?;
-    match item_in(rows.table, d, path, position) {
-        Some(x) => Ok(Some(x.name)),
-        None => Ok(None),
-    }
+    Ok(item_in(rows.table, d, path, position).map(|x| x.name))
 }
 
 // Where the part of the listing that holds an item's name stands, if there is such an item; Check's refusal if it refuses.
@@ -63,9 +60,9 @@ pub fn name<'a>(listing: &'a [u8], work: &mut [u32], path: u32, position: u32) -
     ensures result_value { result.now ≡ name_bytes listing.now (length work.old) path position }
     ensures work_after { work.new ≡ work_after work.old }
 {
-    match name_place(listing, work, path, position) {
-        Ok(Some(place)) => place.of(listing),
-        Ok(None) => &[],
-        Err(_) => &[],
+    let place = name_place(listing, work, path, position).ok().flatten();
+    match place {
+        Some(x) => x.of(listing),
+        None => &[],
     }
 }

@@ -18,10 +18,8 @@ use analyze::analyze;
 use ast::ErrorKind;
 use declarations::Declared;
 use reporting::analyzed::Analyzed;
-use rows::Rows;
+use rows::{Rows, WORK_WORDS};
 use verdicts::{Reported, report_acceptance, report_refusal, without_text};
-
-const WORK_WORDS: usize = 16384;
 
 // The contract in n rows, analyzed and reported.
 fn report_table(rows: &Rows<'_>, n: usize, d: Declared, output: &mut [u8]) -> Reported

@@ -82,10 +82,8 @@ fn row_at(table: &[u32], i: usize) -> Option<Words>
 fn is_item(rows: &Rows<'_>, i: usize) -> bool
     ensures { result ≡ is_item rows.now.listing.now rows.now.table.now i }
 {
-    match row_at(rows.table, i) {
-        Some(r) => r.kind == letters::ITEM && is_inside(rows.listing, r.part()),
-        None => false,
-    }
+    row_at(rows.table, i).is_some_and(|r| r.kind == letters::ITEM
+        && is_inside(rows.listing, r.part()))
 }
 
 // Whether the taken positions run from the top and are below `count`.
@@ -158,9 +156,7 @@ pub fn take_at(rows: &Rows<'_>, i: usize, path: Path) -> Result<Path, CompileErr
     if !is_path(rows, path) {
         return Err(unfit());
     }
-    let Some((loc, x)) = variable_at(rows, i) else {
-        return Err(unfit());
-    };
+    let (loc, x) = variable_at(rows, i).ok_or(unfit())?;
     take(rows, i, loc, x, path)
 }
 
@@ -171,9 +167,7 @@ pub fn transfer_at(rows: &Rows<'_>, i: usize, from: Path, to: Path) -> Result<Pa
     if !is_path(rows, from) || !is_path(rows, to) {
         return Err(unfit());
     }
-    let Some(loc) = if_at(rows.table, i) else {
-        return Err(unfit());
-    };
+    let loc = if_at(rows.table, i).ok_or(unfit())?;
     transfer_prefix_consumption(rows, loc, from, to)
 }
 

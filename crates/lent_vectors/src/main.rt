@@ -11,7 +11,7 @@ use ast::CompileError;
 use lent_path::{Answered, bithoven_take, bithoven_transfer, take_at, transfer_at};
 use paths::{NamePlace, Path};
 use reading::read_listing;
-use rows::Rows;
+use rows::{Rows, WORK_WORDS};
 use std::io;
 use std::io::Read;
 
@@ -165,7 +165,7 @@ impl<P: Print> Driver<'_, P> {
 fn main(rt: HostRuntime) -> io::Result<()> {
     let mut listing = Vec::new(rt.alloc());
     rt.stdin().take(MOST_READ).read_to_end(&mut listing)?;
-    let mut work = [0u32; 16384];
+    let mut work = [0u32; WORK_WORDS];
     if read_listing(&listing, &mut work).is_err() {
         return println!(rt; "the listing is refused");
     }

@@ -1,18 +1,17 @@
 -- Laws of a literal's digits.
-use Prim.Native.Nat.{ℕ, zero, suc, ◌+◌, ◌*◌, ◌-◌, ◌/◌, ◌%◌, ◌≤◌, ◌<◌}
+use Prim.Native.Nat.{ℕ, zero, suc, ◌+◌, ◌*◌, ◌-◌, ◌/◌, ◌≤◌, ◌<◌}
 use native.Mathlib.Omega.{arith}
 use mathlib.Core.Bool.{Bool, true, false, ◌&&◌, ◌||◌}
 use mathlib.Core.List.{List, [], ◌∷◌, ◌++◌}
-use mathlib.Core.Logic.{◌⊎◌, inl, inr, ◌↔◌}
-use mathlib.Core.Path.{◌≡◌, refl, sym, ap, ◌∙◌, subst}
+use mathlib.Core.Logic.{◌⊎◌, inl, inr}
+use mathlib.Core.Path.{◌≡◌, refl, sym, ap, ◌∙◌}
 use lib.Dec.{leb, eqb}
 use lib.ListN.{length, take, drop, get_or, length-drop}
-use borrow.Author.Tests.{leb-true, le-leb, lt-leb, eqb-true, eqb-false, eq-eqb}
+use Rattle.std.proofs.Common.{drop-drop}
+use borrow.Author.Tests.{leb-true, le-leb, lt-leb, eqb-true, eq-eqb}
 use Rattle.std.proofs.lemmas.Bool.{and_parts}
-use Rattle.std.proofs.lemmas.List.{take_all}
 use Rattle.std.proofs.lemmas.List.Folds.{list_all-append, list_all_at}
 use Rattle.text.specs.Text.{within as text_within, is_digit as is_decimal, is_hex_digit, hex_value, unhex}
-use Rattle.text.proofs.Every.{Every}
 use Rattle.limits.specs.Pairs.{AllPairs}
 use Rattle.std.specs.List.{list_all}
 use Rattle.rules.specs.Keys.{within, is_digit, all_digits}
@@ -172,11 +171,6 @@ module _ (p : ℕ → Bool) where
   all_true [] f = refl
   all_true (x ∷ xs) f = rw (f 0 (omega arith)) (all_true xs (λ j l. f (suc j) (omega arith)))
 
-  each_true : (xs : List ℕ) → list_all p xs ≡ true → (j : ℕ) → j < length xs → p (get_or xs j 0) ≡ true
-  each_true [] e j l = absurd (omega arith)
-  each_true (x ∷ xs) e zero l = (and_parts (p x) (list_all p xs) e).0
-  each_true (x ∷ xs) e (suc j) l = each_true xs (and_parts (p x) (list_all p xs) e).1 j (omega arith)
-
   -- a test on pairs that gives this test of the byte that they spell
   pub all-pairs : {P : ℕ → ℕ → Bool → Type 0} {s : List ℕ} {b : Bool} → AllPairs P s b → ((x y : ℕ) (r : Bool) → P x y r → r ≡ p (hex_value x * 16 + hex_value y)) → b ≡ list_all p (unhex s)
   all-pairs {P} {s} {b} f g = go b refl
@@ -191,33 +185,48 @@ unfolding all_digits
 digits-all [] = refl
 digits-all (b ∷ l) = ap (λ r. is_digit b && r) (digits-all l)
 
+-- whether digits are lower-case and spell hex digits, pair by pair
+abbrev pub Spells : List ℕ → Bool
+Spells s = list_all is_hex_digit s && all_digits (unhex s)
+
+-- two digits more in front
+pub spells-pair : (x s : List ℕ) → length x ≡ 2 → (Spelled (get_or x 0 0) (get_or x 1 0) && Spells s) ≡ Spells (x ++ s)
+unfolding unhex all_digits
+spells-pair (a ∷ b ∷ []) s h = apart (is_hex_digit a) (is_hex_digit b) (is_digit (hex_value a * 16 + hex_value b)) (list_all is_hex_digit s) (all_digits (unhex s))
+  where
+    apart : (x y d h e : Bool) → (x && y && d && (h && e)) ≡ (x && (y && h) && (d && e))
+    apart false y d h e = refl
+    apart true false d h e = refl
+    apart true true false true e = refl
+    apart true true false false e = refl
+    apart true true true h e = refl
+spells-pair [] s h = absurd (omega arith)
+spells-pair (a ∷ []) s h = absurd (omega arith)
+spells-pair (a ∷ b ∷ d ∷ x) s h = absurd (omega arith)
+
+-- three tests, grouped to the right
+pub and-apart : (x y z : Bool) → (x && y && z) ≡ (x && (y && z))
+and-apart true y z = refl
+and-apart false y z = refl
+
+-- no digits left
+pub spells-none : (ok : Bool) (s : List ℕ) → length s ≡ 0 → ok ≡ (ok && Spells s)
+unfolding unhex all_digits
+spells-none true [] h = refl
+spells-none false [] h = refl
+spells-none ok (a ∷ s) h = absurd (omega arith)
+
 -- the digits after 32 that pass
-pub digits-run : (s : List ℕ) → 32 ≤ length s → all_digits (unhex (take 32 s)) ≡ true → all_digits (unhex (take (length s - 32) (drop 32 s))) ≡ all_digits (unhex s)
+digits-run : (s : List ℕ) → 32 ≤ length s → all_digits (unhex (take 32 s)) ≡ true → all_digits (unhex (drop 32 s)) ≡ all_digits (unhex s)
 digits-run s h e =
     let f : list_all is_digit (unhex (take 32 s)) ≡ true = digits-all _ ∙ e in
     let g : list_all is_digit (unhex (take 32 s) ++ unhex (drop 32 s)) ≡ (list_all is_digit (unhex (take 32 s)) && list_all is_digit (unhex (drop 32 s))) = list_all-append is_digit _ _ in
-    rw (take_all (length s - 32) (drop 32 s) (omega (arith, length-drop 32 s))) (sym (digits-all _) ∙ sym (rw f at g) ∙ ap (list_all is_digit) (sym (unhex-split 16 s h)) ∙ digits-all _)
+    sym (digits-all _) ∙ sym (rw f at g) ∙ ap (list_all is_digit) (sym (unhex-split 16 s h)) ∙ digits-all _
 
--- pairs that spell digits, one by one and all together
-abbrev pub Pair : List ℕ → ℕ → Bool
-Pair s j = Spelled (get_or s (2 * j) 0) (get_or s (2 * j + 1) 0)
-
-module _ (s : List ℕ) (m : ℕ) (h : length s ≡ 2 * m) where
-  hex-each : Every (Pair s) m → (j : ℕ) → j < length s → is_hex_digit (get_or s j 0) ≡ true
-  hex-each e j l = let r = spelled-apart _ _ (e (j / 2) (omega arith)) in go (eqb (j % 2) 0) refl r.0 r.1
-    where
-      go : (b : Bool) → eqb (j % 2) 0 ≡ b → is_hex_digit (get_or s (2 * (j / 2)) 0) ≡ true → is_hex_digit (get_or s (2 * (j / 2) + 1) 0) ≡ true → is_hex_digit (get_or s j 0) ≡ true
-      go true t p q = let z = eqb-true (j % 2) 0 t in let y : 2 * (j / 2) ≡ j = omega arith in subst (λ i. is_hex_digit (get_or s i 0) ≡ true) y p
-      go false t p q = let z = eqb-false (j % 2) 0 t in let y : 2 * (j / 2) + 1 ≡ j = omega arith in subst (λ i. is_hex_digit (get_or s i 0) ≡ true) y q
-
-  pub pairs-spelled : {ok : Bool} → ((ok ≡ true) ↔ Every (Pair s) m) → ok ≡ (list_all is_hex_digit s && all_digits (unhex s))
-  pairs-spelled {ok} f = same_tests ok (list_all is_hex_digit s && all_digits (unhex s)) (λ t. to (f.0 t)) (λ t. f.1 (from (and_parts _ _ t).0 (and_parts _ _ t).1))
-    where
-      to : Every (Pair s) m → (list_all is_hex_digit s && all_digits (unhex s)) ≡ true
-      to e =
-          let x : list_all is_hex_digit s ≡ true = all_true is_hex_digit s (hex-each e) in
-          let y : all_digits (unhex s) ≡ true = sym (digits-all _) ∙ all_true is_digit (unhex s) (λ j l. ap is_digit (unhex_byte s j (omega (arith, unhex_length s))) ∙ (spelled-apart _ _ (e j (omega (arith, unhex_length s)))).2) in
-          rw (x, y)
-
-      from : list_all is_hex_digit s ≡ true → all_digits (unhex s) ≡ true → Every (Pair s) m
-      from x y j l = rw (each_true is_hex_digit s x (2 * j) (omega arith), each_true is_hex_digit s x (2 * j + 1) (omega arith)) (ap is_digit (sym (unhex_byte s j (omega arith))) ∙ each_true is_digit (unhex s) (digits-all _ ∙ y) j (omega (arith, unhex_length s)))
+-- the digits after m times 32 that pass
+pub digits-runs : (s : List ℕ) (m : ℕ) → ((k : ℕ) → k < m → (k * 32 + 32 ≤ length s) × (Spells (take 32 (drop (k * 32) s)) ≡ true)) → all_digits (unhex (drop (m * 32) s)) ≡ all_digits (unhex s)
+digits-runs s zero h = refl
+digits-runs s (suc m) h =
+    let a = h m (omega arith) in
+    let next : drop (suc m * 32) s ≡ drop 32 (drop (m * 32) s) = ap (λ i. drop i s) (omega arith) ∙ sym (drop-drop 32 (m * 32) s) in
+    rw next (digits-run (drop (m * 32) s) (omega (arith, a.0, length-drop (m * 32) s)) (and_parts _ _ a.1).1 ∙ digits-runs s m (λ k l. h k (omega arith)))

@@ -1,7 +1,7 @@
 // A literal's length, measured over its digits in the listing.
 ghost use Rattle.std.specs.Prelude.{◌≡◌, ◌&&◌, ◌+◌, ◌*◌, ◌<◌, length};
 ghost use Rattle.std.specs.List.{list_all};
-ghost use Rattle.rules.specs.Keys.{is_digit, all_digits, pushed};
+ghost use Rattle.rules.specs.Keys.{is_digit, all_digits, is_hex, pushed};
 ghost use Rattle.text.specs.Text.{is_hex_digit, hex_value, unhex};
 ghost use Rattle.limits.specs.Pairs.{AllPairs};
 
@@ -48,8 +48,8 @@ fn is_digit_run(run: &[u8]) -> bool
     ensures { result ≡ (list_all is_hex_digit run.now && all_digits (unhex run.now)) }
 {
     let mut ok = true;
-    for k in 0..16 {
-        ok &= is_digit_pair(run[2 * k], run[2 * k + 1]);
+    for p in run.chunks_exact(2) {
+        ok &= is_digit_pair(p[0], p[1]);
     }
     ok
 }
@@ -66,34 +66,31 @@ pub fn all_pairs<F: Fn(u8, u8) -> bool>(digits: &[u8], test: F) -> bool
     requires { F.IsAlwaysCallable test }
     ensures { AllPairs (F.post test) digits.now result }
 {
-    for j in 0..digits.len() / 2 {
-        if !test(digits[2 * j], digits[2 * j + 1]) {
-            return false;
-        }
-    }
-    true
+    digits.chunks_exact(2).all(|p| test(p[0], p[1]))
 }
 
 // Whether the bytes that digits spell are all hex digits: 16 pairs at a time while all are, the rest pair by pair. Each digit is read at most twice.
 pub fn are_digits(digits: &[u8]) -> bool
     ensures { result ≡ all_digits (unhex digits.now) }
 {
-    let mut rest = digits;
-    while 32 <= rest.len() && is_digit_run(&rest[..32]) {
-        rest = &rest[32..];
-    }
-    all_pairs(rest, is_spelled_digit)
+    let runs = digits.chunks_exact(32);
+    let count = 32 * runs.take_while(|run| is_digit_run(run)).count();
+    all_pairs(&digits[count..], is_spelled_digit)
+}
+
+// Whether a literal's bytes are an even count of hex digits.
+#[tactic(auto, unfolding(rules::specs::Keys::is_hex), using(crate::proofs::Digits::unhex_length))]
+pub fn is_hex(digits: &[u8]) -> bool
+    ensures { result ≡ is_hex (unhex digits.now) }
+{
+    digits.len() / 2 % 2 == 0 && are_digits(digits)
 }
 
 // A literal's length: half its bytes if they are an even count of hex digits, else its bytes.
-#[tactic(auto, unfolding(rules::specs::Keys::pushed, rules::specs::Keys::is_hex), using(crate::proofs::Digits::unhex_length))]
+#[tactic(auto, unfolding(rules::specs::Keys::pushed), using(crate::proofs::Digits::unhex_length))]
 pub fn literal_length(digits: &[u8]) -> usize
     ensures { result ≡ pushed (unhex digits.now) }
 {
     let count = digits.len() / 2;
-    if count % 2 == 0 && are_digits(digits) {
-        count / 2
-    } else {
-        count
-    }
+    if is_hex(digits) { count / 2 } else { count }
 }

@@ -35,8 +35,7 @@ fn in_bounds(op: LocktimeOp, v: Signed) -> bool
 {
     match op {
         LocktimeOp::Cltv => up_to(MAX_AFTER, v),
-        LocktimeOp::Csv => up_to(MAX_OLDER, v),
-        LocktimeOp::CsvTime => up_to(MAX_OLDER, v),
+        LocktimeOp::Csv | LocktimeOp::CsvTime => up_to(MAX_OLDER, v),
     }
 }
 

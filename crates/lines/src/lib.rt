@@ -4,6 +4,7 @@
 ghost use Rattle.std.specs.Prelude.{◌≡◌, ◌^◌, ◌<◌, length, option_map, Some};
 ghost use Rattle.text.specs.declared.Cursor.{Cursor};
 ghost use Rattle.text.specs.Text.{read, location};
+ghost use Rattle.listing.specs.declared.letters.TheConstants.{CONTRACT, DECLARATION, BLOCK};
 ghost use Rattle.listing.specs.Forms.{forms, fields_of, line};
 ghost use Rattle.rows.specs.Rows.{row_of};
 ghost use Rattle.forms.specs.Rowed.{row_read};
@@ -21,7 +22,7 @@ use words::read_location;
 // The forms with a location. It is read first, at one place for all of them.
 fn located_row(c: Cursor, letter: u8) -> Option<(Words, Cursor)>
     requires small { length c.listing.now < 2 ^ 32 }
-    requires located { (letter ≡ 84 → ⊥) × (letter ≡ 68 → ⊥) × (letter ≡ 66 → ⊥) }
+    requires located { (letter ≡ CONTRACT → ⊥) × (letter ≡ DECLARATION → ⊥) × (letter ≡ BLOCK → ⊥) }
     ensures { result ≡ row_read (fields_of forms letter) c.entry }
 {
     let (w, c) = read_location(c)?;
@@ -31,7 +32,7 @@ fn located_row(c: Cursor, letter: u8) -> Option<(Words, Cursor)>
 // What follows the location w that stands at the cursor d. It is a function of its own so that the compiler takes no form for one seldom met.
 fn fields_row(c: Cursor, letter: u8, w: Location) -> Option<(Words, Cursor)>
     requires small { length c.listing.now < 2 ^ 32 }
-    requires located { (letter ≡ 84 → ⊥) × (letter ≡ 68 → ⊥) × (letter ≡ 66 → ⊥) }
+    requires located { (letter ≡ CONTRACT → ⊥) × (letter ≡ DECLARATION → ⊥) × (letter ≡ BLOCK → ⊥) }
     ensures { (d : Cursor) → read location d ≡ Some (w, c.entry) → result ≡ row_read (fields_of forms letter) d }
 {
     match letter {

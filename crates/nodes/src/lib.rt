@@ -145,8 +145,7 @@ fn early_parts(r: Words) -> u32
     ensures { result ≡ count_of (line_of r) }
 {
     match r.kind {
-        letters::BLOCK => r.a,
-        letters::DECLARATION => r.a,
+        letters::BLOCK | letters::DECLARATION => r.a,
         letters::RETURN => 1,
         letters::IF => { if r.a == 1 { 3 } else { 2 } }
         _ => 0,

@@ -6,8 +6,13 @@ use mathlib.Core.List.{List}
 use mathlib.Core.Path.{◌≡◌, refl, sym, ap, ◌∙◌, subst}
 use lib.ListN.{length}
 use Rattle.std.specs.Prelude.{Ok, Err}
+use Rattle.ast.specs.declared.Location.{Location}
 use Rattle.ast.specs.declared.Target.{Target}
-use Rattle.rules.specs.Result.{Result, Checked}
+use Rattle.text.specs.declared.Place.{Place}
+use Rattle.listing.specs.Kinds.{part_of}
+use Rattle.listing.specs.declared.ExpressionLine.{ExpressionLine}
+use Rattle.listing.specs.declared.Line.{Line}
+use Rattle.rules.specs.Result.{Result, Checked, both}
 use Rattle.ast.specs.declared.CompileError.{CompileError}
 use Rattle.ast.specs.Tree.{StackParam, Declaration, from_top, Expression, Factors}
 use Rattle.rows.specs.Rows.{line_in}
@@ -15,8 +20,8 @@ use Rattle.reader.specs.Reading.{item}
 use Rattle.reader.specs.Spells.{SpellsExpression, SpellsFactor, SpellsFactors, SpellsItems}
 use Rattle.reader.proofs.Agree.{expression-on, factor-on, factors-on}
 use Rattle.nodes.specs.Stands.{walked}
-use Rattle.nodes.proofs.Laws.{below, walked-pass, walked-fault}
-use Rattle.names.specs.Items.{ItemsAt}
+use Rattle.nodes.proofs.Laws.{below, row-part, walked-pass, walked-fault}
+use Rattle.names.specs.Items.{ItemsAt, Inside}
 use Rattle.reader.proofs.Items.{items-end}
 use Rattle.rules.specs.Types.{size, inner, inners}
 use Rattle.operands.specs.declared.Context.{Context}
@@ -33,6 +38,11 @@ module _ {s t : List ℕ} {p : Context} where
 
   pub factor-low : {i : ℕ} → FactorUnder s t p i → i < length t
   factor-low u = omega (arith, factor-on (line_in t) s u.node.spells, u.node.within, u.node.rows.room)
+
+  -- a variable's name lies in the listing
+  pub name-under : {i : ℕ} {l : Location} {x : Place} (u : ExpressionUnder s t p i) → line_in t i ≡ Line.Expression (ExpressionLine.Variable l x) → ItemsAt s t p.items.count p.items.first × Inside s x
+  unfolding part_of
+  name-under u h = (u.items, row-part u.node (expression-on _ _ u.node.spells) _ h _ refl)
 
   -- what stands below: from the next row on up to the end of the node
   pub under : {A B : Type 0} {R : ℕ → A → ℕ → Type 0} (Q : ℕ → B → ℕ → Type 0) {i k m : ℕ} {b : B} (u : Under R s t p i) → Q k b m → m ≤ u.node.next → Under Q s t p k
@@ -122,6 +132,14 @@ factors-size s t (SpellsFactors.cons u v) = ap suc (factors-size s t v)
 -- what is answered by one rule is answered by another that agrees with it on the node
 pub turn : {e E : Expression} (F G : Expression → Checked) (j : ℕ) {r : Result ℕ} → e ≡ E → F E ≡ G E → r ≡ walked (F e) j → r ≡ walked (G e) j
 turn F G j q h k = k ∙ ap (λ c. walked c j) (ap F q ∙ h ∙ ap G (sym q))
+
+-- a check, and after its pass another
+module _ (c d : Checked) {o : Checked} (q : both c d ≡ o) (j : ℕ) {r : Result ℕ} (h : r ≡ walked c j) where
+  pub then-fault : {x : CompileError} → r ≡ Err x → r ≡ walked o j
+  then-fault w = rw (w, ← q, walked-fault c j (sym h ∙ w))
+
+  pub then-pass : {n : ℕ} {b : Result ℕ} → r ≡ Ok n → b ≡ walked d n → b ≡ walked o j
+  then-pass w k = let z = walked-pass c j (sym h ∙ w) in rw (← q, z.0, z.1) k
 
 -- a node with no operand
 pub leaf : {e E : Expression} (G : Expression → Checked) {i j : ℕ} {r : Result ℕ} → e ≡ E → j ≡ suc i → r ≡ walked (G E) (i + 1) → r ≡ walked (G e) j

@@ -10,6 +10,8 @@ use Rattle.ast.specs.declared.Target.{Target}
 use Rattle.ast.specs.declared.ErrorKind.TheVariants.{TypeMismatch}
 use Rattle.ast.specs.declared.Type.{«Type» as ItemType}
 use Rattle.ast.specs.declared.Type.TheVariants.{Number, String, Boolean}
+use Rattle.ast.specs.declared.UnaryMathOp.{UnaryMathOp}
+use Rattle.ast.specs.declared.UnaryMathOp.TheVariants.{Add, Sub, Negate, Abs, Not}
 use Rattle.ast.specs.Tree.{Name, StackParam, Declaration, from_top, loc, Expression, Variable, StringLiteral}
 use Rattle.text.specs.declared.Place.{Place}
 use Rattle.text.specs.Text.{part, bytes_of}
@@ -63,6 +65,19 @@ found_some (some a) {ty} h = let z : a ≡ ty = cc in ap some z
 pub found_none : (o : Option ItemType) → type_found o ≡ None → o ≡ none
 found_none none h = refl
 found_none (some a) h = cc
+
+-- whether a unary is `not`
+pub unary_not : {o : UnaryMathOp} → o ≡ Not → is_not o ≡ true
+unfolding is_not
+unary_not h = ap is_not h
+
+pub unary-other : (o : UnaryMathOp) → (o ≡ Not → ⊥) → is_not o ≡ false
+unfolding is_not
+unary-other Add h = refl
+unary-other Sub h = refl
+unary-other Negate h = refl
+unary-other Abs h = refl
+unary-other Not h = absurd (h refl)
 
 -- the one type of an operand, by its own line
 abbrev pub sort_line : List StackParam → List ℕ → ExpressionLine → StdOption ItemType

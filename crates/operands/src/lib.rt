@@ -1,4 +1,4 @@
-// Names and literals as operands, and what an answer on an operand comes to.
+// Names and literals as operands, and what an answer on the operands of a compare comes to.
 #![tactic(auto)]
 
 ghost use Rattle.std.specs.Prelude.{◌≡◌, ℕ, Bool};
@@ -8,8 +8,8 @@ ghost use Rattle.text.specs.Text.{part};
 ghost use Rattle.rows.specs.Rows.{line_in};
 ghost use Rattle.reader.specs.Spells.{SpellsExpression};
 ghost use Rattle.nodes.specs.Stands.{ExpressionAt, walked};
-ghost use Rattle.rules.specs.Result.{Checked, both, refused};
-ghost use Rattle.rules.specs.Types.{type_of, is_equality, is_not, ascii, variable};
+ghost use Rattle.rules.specs.Result.{Checked};
+ghost use Rattle.rules.specs.Types.{type_of, is_equality, ascii, variable};
 ghost use Rattle.names.specs.Items.{ItemsAt, Inside};
 ghost use Rattle.operands.specs.Typed.{Declares, ExpressionUnder, Computes, type_found, LeafIs, sort_of, allows, judged};
 
@@ -39,13 +39,6 @@ pub enum Leaf {
     Other(Location),
 }
 
-#[tactic(auto, unfolding(rules::specs::Types::is_not))]
-pub fn is_not(op: UnaryMathOp) -> bool
-    ensures { result ≡ is_not op }
-{
-    op == UnaryMathOp::Not
-}
-
 // The type of the name x in the context's declaration.
 pub fn type_of(rows: &Rows<'_>, context: Context, x: Place) -> Option<Type>
     requires { ItemsAt rows.now.listing.now rows.now.table.now context.items.count context.items.first × Inside rows.now.listing.now x }
@@ -70,13 +63,8 @@ pub fn check_variable_type<F: FnOnce(Type) -> bool>(
 {
     match type_of(rows, context, x) {
         None => Err(CompileError::new(ErrorKind::UndefinedVariable, loc)),
-        Some(ty) => {
-            if wanted(ty) {
-                Ok(next)
-            } else {
-                Err(CompileError::new(ErrorKind::InvalidOperation, loc))
-            }
-        }
+        Some(ty) if wanted(ty) => Ok(next),
+        Some(_) => Err(CompileError::new(ErrorKind::InvalidOperation, loc)),
     }
 }
 
@@ -99,14 +87,16 @@ pub fn sort_at(rows: &Rows<'_>, context: Context, i: usize) -> Option<Type>
 {
     match expression_at(rows.table, i) {
         ExpressionLine::Variable(_, x) => type_of(rows, context, x),
-        ExpressionLine::UnaryMathExpression(_, op) if is_not(op) => Some(Type::Boolean),
+        ExpressionLine::UnaryMathExpression(_, op) => match op {
+            UnaryMathOp::Not => Some(Type::Boolean),
+            _ => Some(Type::Number),
+        },
         ExpressionLine::BooleanLiteral(..)
         | ExpressionLine::LogicalExpression(..)
         | ExpressionLine::CompareExpression(..)
         | ExpressionLine::CheckSigExpression(_) => Some(Type::Boolean),
         ExpressionLine::NumberLiteral(..)
         | ExpressionLine::BinaryMathExpression(..)
-        | ExpressionLine::UnaryMathExpression(..)
         | ExpressionLine::ByteExpression(_) => Some(Type::Number),
         ExpressionLine::StringLiteral(..) | ExpressionLine::UnaryCryptoExpression(..) => {
             Some(Type::String)
@@ -114,32 +104,16 @@ pub fn sort_at(rows: &Rows<'_>, context: Context, i: usize) -> Option<Type>
     }
 }
 
-// After an operand's answer, 17 at `loc`: the operand's fault comes first.
-pub fn then_refuse(
-    operand: Result<usize, CompileError>,
-    loc: Location,
-) -> Result<usize, CompileError>
-    ensures { (c : Checked) (j k : ℕ) → operand ≡ walked c j → result ≡ walked (both c (refused ErrorKind.InvalidOperation loc)) k }
-{
-    operand?;
-    Err(CompileError::new(ErrorKind::InvalidOperation, loc))
-}
-
-// The operand of a size, at row i, after its answer by the string rule: a literal has only ASCII, else 17 at it.
-pub fn check_ascii(
-    rows: &Rows<'_>,
-    i: usize,
-    operand: Result<usize, CompileError>,
-) -> Result<usize, CompileError>
+// The operand of a size, at row i: a literal has only ASCII, else 17 at it. A pass goes on at `next`.
+pub fn check_ascii(rows: &Rows<'_>, i: usize, next: usize) -> Result<usize, CompileError>
     requires { ExpressionAt rows.now.listing.now rows.now.table.now i }
-    ensures { (e : Expression) (j : ℕ) (c : Checked) → SpellsExpression (line_in rows.now.table.now) rows.now.listing.now i e j → operand ≡ walked c j → result ≡ walked (both c (ascii e)) j }
+    ensures { (e : Expression) (j : ℕ) → SpellsExpression (line_in rows.now.table.now) rows.now.listing.now i e j → result ≡ walked (ascii e) next }
 {
-    let n = operand?;
     match leaf_at(rows, i) {
-        Leaf::Named(..) | Leaf::Other(_) => Ok(n),
+        Leaf::Named(..) | Leaf::Other(_) => Ok(next),
         Leaf::Bytes(l, x, _) => {
             if is_ascii_literal(x.of(rows.listing)) {
-                Ok(n)
+                Ok(next)
             } else {
                 Err(CompileError::new(ErrorKind::InvalidOperation, l))
             }

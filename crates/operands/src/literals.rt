@@ -2,10 +2,10 @@
 ghost use Rattle.std.specs.Prelude.{◌≡◌, ◌≤◌};
 ghost use Rattle.ast.specs.declared.Target.TheVariants.{Legacy};
 ghost use Rattle.text.specs.Text.{unhex};
-ghost use Rattle.rules.specs.Keys.{is_hex, digit, shaped, is_key, is_ascii};
+ghost use Rattle.rules.specs.Keys.{digit, shaped, is_key, is_ascii};
 
 use ast::Target;
-use limits::literals::{all_pairs, are_digits, byte_of};
+use limits::literals::{all_pairs, byte_of, is_hex};
 
 // Whether a literal has only ASCII.
 pub fn is_ascii_literal(digits: &[u8]) -> bool
@@ -51,14 +51,6 @@ fn is_shaped(digits: &[u8], target: Target) -> bool
         Target::Legacy | Target::Segwit => is_compressed(digits),
         Target::Taproot => digits.len() / 2 == 64,
     }
-}
-
-// Whether a literal is an even count of hex digits.
-#[tactic(auto, unfolding(rules::specs::Keys::is_hex), using(limits::proofs::Digits::unhex_length))]
-fn is_hex(digits: &[u8]) -> bool
-    ensures { result ≡ is_hex (unhex digits.now) }
-{
-    digits.len() / 2 % 2 == 0 && are_digits(digits)
 }
 
 // Whether a literal with a mark is a key of the target.

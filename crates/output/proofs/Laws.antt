@@ -1,5 +1,5 @@
 -- Laws of numbers in decimal, and of texts put one after another.
-use Rattle.std.proofs.Common.{◌≡◌, refl, sym, ap, ◌∙◌, Bool, true, false, List, [], ◌∷◌, ◌++◌, append_assoc, ℕ, zero, suc, ◌+◌, ◌/◌, ◌%◌, ◌^◌, ◌≤◌, ◌<◌, arith, length, length-append}
+use Rattle.std.proofs.Common.{◌≡◌, refl, sym, ap, ◌∙◌, Bool, true, false, List, [], ◌∷◌, ◌++◌, append_assoc, ℕ, zero, suc, ◌+◌, ◌*◌, ◌/◌, ◌%◌, ◌^◌, ◌≤◌, ◌<◌, arith, length, length-append}
 use native.Mathlib.Nat.{pow-suc}
 use borrow.Author.Tests.{lt-ltb, le-ltb, ltb-true, ltb-false}
 use Rattle.std.specs.Prelude.{ltb}
@@ -90,13 +90,12 @@ length_three n h l = ap length (decimal_three n h l)
 pub length_thousands : (n : ℕ) → 1000 ≤ n → length (decimal n) ≡ length (decimal (n / 1000)) + 3
 length_thousands n h = ap length (decimal_thousands n h) ∙ length-append (decimal (n / 1000)) (last_digit (n / 100) ∷ last_digit (n / 10) ∷ last_digit n ∷ [])
 
-pub length_four : (n : ℕ) → 1000 ≤ n → n < 10000 → length (decimal n) ≡ 4
-length_four n h l = omega (arith, length_thousands n h, length_one (n / 1000) (omega arith))
-
-pub length_more : (n : ℕ) → 10000 ≤ n → length (decimal n) ≡ length (decimal (n / 10000)) + 4
-length_more n h =
-    let e : n / 1000 / 10 ≡ n / 10000 = omega arith in
-    omega (arith, length_thousands n (omega arith), ap length (decimal-more (n / 1000) (omega arith)), length-append (decimal (n / 1000 / 10)) (last_digit (n / 1000) ∷ []), ap (λ m. length (decimal m)) e)
+-- from the tens power at or below it
+pub length_power : (k n : ℕ) → 10 ^ k ≤ n → n < 10 * 10 ^ k → length (decimal n) ≡ suc k
+length_power zero n h l = length_one n (omega arith)
+length_power (suc k) n h l =
+    let rest = length_power k (n / 10) (omega (arith, pow-suc 10 k)) (omega (arith, pow-suc 10 k)) in
+    omega (arith, rest, ap length (decimal-more n (omega (arith, pow-suc 10 k))), length-append (decimal (n / 10)) (last_digit n ∷ []))
 
 -- a number of 32 bits has at most ten digits
 decimal-within : (k n : ℕ) → n < 10 ^ suc k → length (decimal n) ≤ suc k

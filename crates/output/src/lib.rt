@@ -7,7 +7,7 @@ ghost use Rattle.output.specs.Decimal.{decimal, last_digit};
 ghost use Rattle.output.specs.Sink.{SinkLaws};
 ghost use Rattle.output.specs.Sinks.{counted, IsCount, counter_laws, stored, HasRoom, writer_laws};
 
-const COMMA: u8 = 44;
+const COMMA: u8 = b',';
 
 // Where text is put.
 pub trait Sink {
@@ -92,22 +92,11 @@ impl Sink for Writer<'_> {
 }
 
 // How many digits a number has.
+#[tactic(auto, using(crate::proofs::Laws::length_one, crate::proofs::Laws::length_power))]
 fn decimal_length(x: u32) -> usize
     ensures { result ≡ length (decimal x) }
 {
-    if x < 10 {
-        return 1;
-    }
-    if x < 100 {
-        return 2;
-    }
-    if x < 1000 {
-        return 3;
-    }
-    if x < 10000 {
-        return 4;
-    }
-    4 + decimal_length(x / 10000)
+    x.checked_ilog10().map_or(1, |n| n as usize + 1)
 }
 
 // The last digit of a number.
@@ -136,6 +125,7 @@ fn write_three(output: &mut [u8], at: usize, x: u32)
 }
 
 // A number in decimal, three digits at a time, which is faster than one. Returns the position after it.
+#[tactic(auto, using(crate::proofs::Laws::length_one, crate::proofs::Laws::length_two, crate::proofs::Laws::length_three, crate::proofs::Laws::length_thousands))]
 fn write_decimal(output: &mut [u8], at: usize, x: u32) -> usize
     requires { at + length (decimal x) ≤ length output.old }
     ensures text { output.new ≡ sets output.old at (decimal x) }

@@ -85,9 +85,10 @@ pub fn take(
     requires { Inside rows.now.listing.now x × WellFormed rows.now.listing.now rows.now.table.now path × (i + 1 < 65536) }
     ensures { Walked rows.now.listing.now rows.now.table.now path (take_of false loc (suc i) (part rows.now.listing.now x) (table_of rows.now.listing.now rows.now.table.now path)) result }
 {
-    let Some(k) = find_place(rows, x.of(rows.listing), path) else {
-        return Err(CompileError::new(ErrorKind::UndefinedVariable, loc));
-    };
+    let k = find_place(rows, x.of(rows.listing), path).ok_or(CompileError::new(
+        ErrorKind::UndefinedVariable,
+        loc,
+    ))?;
     if is_taken(path.taken, k) {
         return Err(CompileError::new(ErrorKind::VariableConsumed, loc));
     }

@@ -10,22 +10,20 @@ ghost use Rattle.tree.specs.Table.{Holds, stepped};
 ghost use Rattle.reading.specs.Held.{rows_of, rows_kept, listing_read, work_read, Spelled};
 
 use ast::{CompileError, ErrorKind};
-use tree::{Form, Kind, Left, Lines, read_end, read_parts};
+use rows::WORK_WORDS;
+use tree::{Form, Kind, Left, Lines, Listed, read_end, read_parts};
 
 mod store; // store.rt: the lines of a listing, stored as rows
 
 const MAX_BYTES: usize = 32768;
-
-const WORK_WORDS: usize = 16384;
 
 const MAX_DEPTH: u32 = 32;
 
 const MAX_BLOCK_DEPTH: u32 = 32;
 
 // The whole listing: the T line and its declarations, the block, and nothing more. The first two are read as parts of one line.
-fn read_contract(table: &[u32], lines: Lines) -> Result<usize, CompileError>
-    requires { HasRows table.now lines.count }
-    ensures { (s : List ℕ) → Holds s table.now lines → result ≡ stepped (contract s (source s 0 0)) }
+fn read_contract(listed: &Listed<'_>) -> Result<usize, CompileError>
+    ensures { (s : List ℕ) → Holds s listed.now.table.now listed.now.lines → result ≡ stepped (contract s (source s 0 0)) }
 {
     let left = Left {
         blocks: MAX_BLOCK_DEPTH,
@@ -38,8 +36,8 @@ fn read_contract(table: &[u32], lines: Lines) -> Result<usize, CompileError>
         rest: Kind::Block,
         within: true,
     };
-    let next = read_parts(table, lines, 0, whole, left)?;
-    read_end(lines, next)
+    let next = read_parts(listed, 0, whole, left)?;
+    read_end(listed.lines, next)
 }
 
 // The contract that was stored, or the refusal with work memory cleared.
@@ -47,7 +45,10 @@ fn read_stored(work: &mut [u32], lines: Lines) -> Result<usize, CompileError>
     requires { HasRows work.old lines.count × (work_words ≤ length work.old) }
     ensures { (s : List ℕ) → Holds s work.old lines → (result ≡ rows_of (contract s (source s 0 0))) × (work.new ≡ rows_kept (contract s (source s 0 0)) work.old) }
 {
-    let read = read_contract(&work[..], lines);
+    let read = read_contract(&Listed {
+        table: &work[..],
+        lines,
+    });
     if read.is_err() {
         rows::clear(work);
     }

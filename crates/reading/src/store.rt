@@ -7,10 +7,10 @@ ghost use Rattle.reading.specs.Held.{Stored};
 use lines::read_line;
 use rows::store_row;
 use text::Cursor;
-use tree::Lines;
+use tree::{Lines, MAX_LINES};
 
 // One row more than a listing may have lines, so that the line after the last can still be asked for.
-const MAX_ROWS: usize = 1025;
+const MAX_ROWS: usize = MAX_LINES + 1;
 
 pub fn store_lines(listing: &[u8], work: &mut [u32]) -> Lines
     requires { (length listing.now ≤ max_bytes) × (work_words ≤ length work.old) }

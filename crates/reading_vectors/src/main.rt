@@ -6,9 +6,10 @@ use anyhow::{Context, Result};
 use ast::CompileError;
 use reading::read_listing;
 use records::{
-    FILLED, ReadError, Refusal, decimal, not_cleared, read_full, read_head, read_up_to, touched,
-    touched_past,
+    FILLED, LENT, ReadError, Refusal, decimal, not_cleared, read_full, read_head, read_up_to,
+    touched, touched_past,
 };
+use rows::WORK_WORDS;
 use std::fs::File;
 use std::io::Read;
 use std::{fmt, io};
@@ -132,7 +133,7 @@ fn differs(rt: &impl Print, index: usize, answer: Answer, due: Answer) -> io::Re
 }
 
 // After a refusal the words that are asked are zero; those past them are never touched.
-fn wrong_words(work: &[u32; 16400], answer: Answer) -> usize {
+fn wrong_words(work: &[u32; LENT], answer: Answer) -> usize {
     let past = touched_past(work);
     if answer.is_refused() {
         past.saturating_add(not_cleared(work))
@@ -143,7 +144,7 @@ fn wrong_words(work: &[u32; 16400], answer: Answer) -> usize {
 
 // A listing is read with work enough.
 fn examine(rt: &impl Print, listing: &[u8], due: Answer, tally: &mut Tally) -> io::Result<()> {
-    let mut work = [FILLED; 16400];
+    let mut work = [FILLED; LENT];
     let answer = Answer::from(read_listing(listing, &mut work));
     println!(rt; "{},{answer}", tally.listings)?;
     tally.add(
@@ -155,8 +156,8 @@ fn examine(rt: &impl Print, listing: &[u8], due: Answer, tally: &mut Tally) -> i
 
 // With a word too few the answer is 5 at 0,0,0,0, and work is as it was.
 fn examine_short(rt: &impl Print, listing: &[u8], tally: &mut Tally) -> io::Result<()> {
-    let mut work = [FILLED; 16400];
-    let answer = Answer::from(read_listing(listing, &mut work[..16383]));
+    let mut work = [FILLED; LENT];
+    let answer = Answer::from(read_listing(listing, &mut work[..WORK_WORDS - 1]));
     println!(rt; "{} with short work,{answer}", tally.listings)?;
     tally.add(
         differs(rt, tally.listings, answer, Answer::due(5, 0))?,

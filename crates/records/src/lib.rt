@@ -13,6 +13,7 @@ ghost use Rattle.records.specs.Records.{records_input, records_left, records_lon
 ghost use Rattle.records.specs.Wrong.{wrong_in};
 
 use ast::CompileError;
+use rows::WORK_WORDS;
 use std::alloc::Global;
 use std::error::Error;
 use std::io::Read;
@@ -21,11 +22,17 @@ use std::{fmt, io};
 #[cfg(test)]
 mod tests;
 
-// What work memory holds before a call. It has 16 words more than are asked.
+// What work memory holds before a call.
 pub const FILLED: u32 = 7;
 
-// How many words of work memory are asked.
-pub const ASKED: usize = 16384;
+// How many words of it are lent: 16 more than are asked.
+pub const LENT: usize = WORK_WORDS + 16;
+
+// No listing of a record is longer.
+pub const LONGEST_LISTING: usize = 32768;
+
+// The room for a report.
+pub const OUTPUT_BYTES: usize = 65536;
 
 // Why a record was not read.
 #[derive(Debug, Drop)]
@@ -290,32 +297,32 @@ fn count_wrong(words: &[u32], due: u32) -> usize
 }
 
 // How many of the words were touched.
-pub fn touched(work: &[u32; 16400]) -> usize
+pub fn touched(work: &[u32; LENT]) -> usize
     ensures { result ≡ wrong_in 7 work.now }
 {
     count_wrong(work, FILLED)
 }
 
 // How many of the words past the 16384 that are asked were touched.
-pub fn touched_past(work: &[u32; 16400]) -> usize
+pub fn touched_past(work: &[u32; LENT]) -> usize
     ensures { result ≡ wrong_in 7 (drop 16384 work.now) }
 {
-    let (_, past) = work.split_at(ASKED);
+    let (_, past) = work.split_at(WORK_WORDS);
     count_wrong(past, FILLED)
 }
 
 // How many of the 16384 words that are asked are not zero.
-pub fn not_cleared(work: &[u32; 16400]) -> usize
+pub fn not_cleared(work: &[u32; LENT]) -> usize
     ensures { result ≡ wrong_in 0 (take 16384 work.now) }
 {
-    let (asked, _) = work.split_at(ASKED);
+    let (asked, _) = work.split_at(WORK_WORDS);
     count_wrong(asked, 0)
 }
 
 // How many words are not as Check leaves them: 16384 are zero, and those past them untouched.
-pub fn wrong_words(work: &[u32; 16400]) -> usize
+pub fn wrong_words(work: &[u32; LENT]) -> usize
     ensures { result ≡ wrong_in 0 (take 16384 work.now) + wrong_in 7 (drop 16384 work.now) }
 {
-    let (asked, past) = work.split_at(ASKED);
+    let (asked, past) = work.split_at(WORK_WORDS);
     count_wrong(asked, 0) + count_wrong(past, FILLED)
 }

@@ -9,7 +9,7 @@ use borrow.Author.Tests.{ltb-true, ltb-false}
 use lib.Dec.{ltb}
 use lib.ListN.{length, get_or, get_elem?}
 use Rattle.ast.specs.declared.CompileError.{CompileError}
-use Rattle.ast.specs.Tree.{Name, StackParam, Declaration, Contract, from_top}
+use Rattle.ast.specs.Tree.{StackParam, Declaration, Contract, from_top}
 use Rattle.rules.specs.Result.{Result, Checked, answer}
 use Rattle.rules.specs.Paths.{Path, paths}
 use Rattle.rules.specs.Table.{Table, params}
@@ -71,11 +71,11 @@ module _ (s : List ℕ) (qs : List StackParam) where
       go true e f = rw (f ∙ e, lay_in) (rw (e, lay_on) (shown-same (onward r.path (suc r.due)) h))
       go false e f = rw (f ∙ e, lay_in) (rw (e, lay_on) refl)
 
-  turn-same : (r : Rehearsal) (turn : Turn) (x : Name) → Linked s r.path qs → turn_in s (items s) r turn x ≡ act s r turn x qs
+  turn-same : (r : Rehearsal) (turn : Turn) → Linked s r.path qs → turn_in s (items s) r turn ≡ act s r turn qs
   unfolding turn_in act
-  turn-same r Open x h = shown-same (onward r.path (beginning s)) h
-  turn-same r (Lay k) x h = lay-same r (record { name = x; ty = k }) h
-  turn-same r TakeBack x h = shown-same (onward r.path (lowered (beginning s) r.due)) h
+  turn-same r Open h = shown-same (onward r.path (beginning s)) h
+  turn-same r (Lay x k) h = lay-same r (record { name = x.now; ty = k }) h
+  turn-same r TakeBack h = shown-same (onward r.path (lowered (beginning s) r.due)) h
 
 -- ---- the tables of an accepted contract: one for each declaration, of its items
 
@@ -133,13 +133,13 @@ module _ (s : List ℕ) (ps : List (List Item)) (short : length s ≤ max_bytes)
           let i = subst (Inside s) same (inside r.path r.due x e) in
           (i, omega (arith, i, short))
 
-  turn_inside : (r : Rehearsal) (turn : Turn) (x : Name) → DueInside s (turn_in s ps r turn x)
+  turn_inside : (r : Rehearsal) (turn : Turn) → DueInside s (turn_in s ps r turn)
   unfolding turn_in lay_in
-  turn_inside r Open x = due-inside (onward r.path (beginning s))
-  turn_inside r TakeBack x = due-inside (onward r.path (lowered (beginning s) r.due))
-  turn_inside r (Lay k) x = go (is_item s (record { name = x; ty = k }) (item_from ps r.path r.due)) refl
+  turn_inside r Open = due-inside (onward r.path (beginning s))
+  turn_inside r TakeBack = due-inside (onward r.path (lowered (beginning s) r.due))
+  turn_inside r (Lay x k) = go (is_item s (record { name = x.now; ty = k }) (item_from ps r.path r.due)) refl
     where
-      go : (b : Bool) → is_item s (record { name = x; ty = k }) (item_from ps r.path r.due) ≡ b → DueInside s (lay_in s ps r (record { name = x; ty = k }))
+      go : (b : Bool) → is_item s (record { name = x.now; ty = k }) (item_from ps r.path r.due) ≡ b → DueInside s (lay_in s ps r (record { name = x.now; ty = k }))
       go true e = rw (e, lay_in) (due-inside (onward r.path (suc r.due)))
       go false e = rw (e, lay_in) (refused-inside s _)
 
@@ -150,18 +150,18 @@ by-inside s (Ok _) a h = h
 
 -- ---- what a turn answers
 
-module _ (s : List ℕ) (words : ℕ) (r : Rehearsal) (turn : Turn) (name : Name) where
-  pub refuses : {x : CompileError} → examine s words ≡ Err x → Refused x ≡ turned s words r turn name
+module _ (s : List ℕ) (words : ℕ) (r : Rehearsal) (turn : Turn) where
+  pub refuses : {x : CompileError} → examine s words ≡ Err x → Refused x ≡ turned s words r turn
   unfolding on_path on_tables
-  refuses is = sym (ap (on_tables r.path (act s r turn name)) is)
+  refuses is = sym (ap (on_tables r.path (act s r turn)) is)
 
   module _ {t : List ℕ} {n : ℕ} (st : ContractAt s t n) (c : Contract) (sp : SpellsContract (line_in t) s c n) (d : Declares t (items s)) where
-    pub turns : examine s words ≡ analyze c → turn_by (tests (answer (analyze c)) (length c.declarations) r) (turn_in s (items s) r turn name) ≡ turned s words r turn name
+    pub turns : examine s words ≡ analyze c → turn_by (tests (answer (analyze c)) (length c.declarations) r) (turn_in s (items s) r turn) ≡ turned s words r turn
     unfolding on_path item_at
     turns is =
         let few = (declared-as st refl c sp).count in
-        let same : r.path < length c.declarations → turn_in s (items s) r turn name ≡ act s r turn name (from_top (declaration_of c r.path)) = λ lt. turn-same s (from_top (declaration_of c r.path)) r turn name (λ k. item-declared st refl d c sp r.path k (omega (arith, few, lt))) in
-        on-analyzed c r (act s r turn name) same ∙ sym (ap (on_tables r.path (act s r turn name)) is)
+        let same : r.path < length c.declarations → turn_in s (items s) r turn ≡ act s r turn (from_top (declaration_of c r.path)) = λ lt. turn-same s (from_top (declaration_of c r.path)) r turn (λ k. item-declared st refl d c sp r.path k (omega (arith, few, lt))) in
+        on-analyzed c r (act s r turn) same ∙ sym (ap (on_tables r.path (act s r turn)) is)
 
-    pub turned-inside : (v : Checked) → DueInside s (turn_by v (turn_in s (items s) r turn name))
-    turned-inside v = by-inside s v (turn_in s (items s) r turn name) (turn_inside s (items s) st.rows.short (λ path k x q. item-inside st refl d path k q) r turn name)
+    pub turned-inside : (v : Checked) → DueInside s (turn_by v (turn_in s (items s) r turn))
+    turned-inside v = by-inside s v (turn_in s (items s) r turn) (turn_inside s (items s) st.rows.short (λ path k x q. item-inside st refl d path k q) r turn)

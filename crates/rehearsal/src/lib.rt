@@ -20,15 +20,9 @@ ghost use Rattle.rehearsal.specs.Acts.{turned};
 use examiner::{analyze_rows, examine};
 use turns::{Rehearsal, Rehearsed, Turn, turn_by};
 
-// A turn on a rehearsal of a listing: the three operations in one. Only Lay looks at the name.
-pub fn rehearse(
-    listing: &[u8],
-    work: &mut [u32],
-    r: Rehearsal,
-    turn: Turn,
-    name: &[u8],
-) -> Rehearsed
-    ensures value { result ≡ turned listing.now (length work.old) r turn name.now }
+// A turn on a rehearsal of a listing: the three operations in one.
+pub fn rehearse(listing: &[u8], work: &mut [u32], r: Rehearsal, turn: Turn<'_>) -> Rehearsed
+    ensures value { result ≡ turned listing.now (length work.old) r turn.entry }
     ensures work_after { work.new ≡ work_after work.old }
     ensures due_inside { DueInside listing.now result }
 {
@@ -37,7 +31,7 @@ pub fn rehearse(
         work,
         &mut |rows, n, d| {
             let answer = analyze_rows(rows, n, d);
-            turn_by(rows, d, answer, r, turn, name)
+            turn_by(rows, d, answer, r, turn)
         },
     );
     match turned {
@@ -53,7 +47,7 @@ pub fn open(listing: &[u8], work: &mut [u32], path: u32) -> Rehearsed
     ensures due_inside { DueInside listing.now result }
 {
     let r = Rehearsal { path, due: 0 };
-    rehearse(listing, work, r, Turn::Open, b"")
+    rehearse(listing, work, r, Turn::Open)
 }
 
 // Lay: an item by its name and the number of its type.
@@ -62,7 +56,7 @@ pub fn lay(listing: &[u8], work: &mut [u32], r: Rehearsal, name: &[u8], ty: u32)
     ensures work_after { work.new ≡ work_after work.old }
     ensures due_inside { DueInside listing.now result }
 {
-    rehearse(listing, work, r, Turn::Lay(ty), name)
+    rehearse(listing, work, r, Turn::Lay(name, ty))
 }
 
 // Take back: the item laid last; at the beginning nothing is altered.
@@ -71,5 +65,5 @@ pub fn take_back(listing: &[u8], work: &mut [u32], r: Rehearsal) -> Rehearsed
     ensures work_after { work.new ≡ work_after work.old }
     ensures due_inside { DueInside listing.now result }
 {
-    rehearse(listing, work, r, Turn::TakeBack, b"")
+    rehearse(listing, work, r, Turn::TakeBack)
 }

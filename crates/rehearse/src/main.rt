@@ -9,7 +9,7 @@
 // asks this program, and the gate runs it on stdin, which tools/rehearsal_vectors.py writes.
 #![tactic(auto)]
 
-use records::{FILLED, ReadError, Records, Refusal, wrong_words};
+use records::{FILLED, LENT, ReadError, Records, Refusal, wrong_words};
 use std::io::Read;
 use std::{fmt, io};
 use text::{COMMA, Cursor};
@@ -118,7 +118,7 @@ fn answer_call(
     let Some(call) = Call::read(record) else {
         return println!(rt; "no call");
     };
-    let mut work = [FILLED; 16400];
+    let mut work = [FILLED; LENT];
     let answer = call.answer(listing, &mut work);
     println!(rt; "{answer}")?;
     tally.calls = tally.calls.saturating_add(1);

@@ -2,6 +2,7 @@
 // long is seen to be.
 #![tactic(auto)]
 
+use rows::WORK_WORDS;
 use std::io;
 use std::io::Read;
 
@@ -13,7 +14,7 @@ const OUTPUT_BYTES: usize = 65536;
 
 // The report of a listing.
 fn print_report(rt: &(impl Print + AllocGlobal), listing: &[u8]) -> io::Result<()> {
-    let mut work = [0u32; 16384];
+    let mut work = [0u32; WORK_WORDS];
     let mut output = vec![in rt.alloc(); 0; OUTPUT_BYTES]?;
     let length = examiner::report::report(listing, &mut work, &mut output).length;
     output.truncate(length);

@@ -3,19 +3,16 @@
 // is independent of the examiner.
 #![tactic(auto)]
 
-use records::{FILLED, ReadError, Records, Refusal, Tally, print_cut_short, wrong_words};
+use records::{
+    FILLED, LENT, LONGEST_LISTING, OUTPUT_BYTES, ReadError, Records, Refusal, Tally,
+    print_cut_short, wrong_words,
+};
 use std::io;
 use std::io::Read;
 
-// No listing of a record is longer.
-const LONGEST: usize = 32768;
-
-// The room for a report.
-const OUTPUT_BYTES: usize = 65536;
-
 // The report of a listing; how many words of work are wrong after it.
 fn print_report(rt: &(impl Print + AllocGlobal), listing: &[u8]) -> io::Result<usize> {
-    let mut work = [FILLED; 16400];
+    let mut work = [FILLED; LENT];
     let mut output = vec![in rt.alloc(); 0; OUTPUT_BYTES]?;
     let length = examiner::report::report(listing, &mut work, &mut output).length;
     output.truncate(length);
@@ -24,7 +21,7 @@ fn print_report(rt: &(impl Print + AllocGlobal), listing: &[u8]) -> io::Result<u
 }
 
 fn examine(rt: &(impl Print + AllocGlobal), listing: &[u8], tally: &mut Tally) -> io::Result<()> {
-    let mut work = [FILLED; 16400];
+    let mut work = [FILLED; LENT];
     let refusal = examiner::check(listing, &mut work).err().map(Refusal);
     let number = refusal.map_or(0, Refusal::number);
     println!(rt; "{},{number}", tally.listings)?;
@@ -45,7 +42,7 @@ fn examine_all<R: Read + Drop>(
 }
 
 fn main(rt: HostRuntime) -> io::Result<()> {
-    let listings = Records::new(rt.alloc(), rt.stdin(), LONGEST);
+    let listings = Records::new(rt.alloc(), rt.stdin(), LONGEST_LISTING);
     let mut tally = Tally::default();
     let read = examine_all(&rt, listings, &mut tally);
     print_cut_short(&rt, tally.listings, read)?;

@@ -7,14 +7,15 @@ use Rattle.text.specs.Text.{part}
 use Rattle.rows.specs.Rows.{line_in}
 use Rattle.names.specs.declared.Item.{Item}
 use Rattle.names.specs.Items.{Inside, NamedRow, line_of, item_of, item_in}
-use Rattle.rules.specs.Table.{Table}
-use Rattle.rules.specs.Analyze.{Analysis}
 use Rattle.paths.specs.declared.NamePlace.{NamePlace}
 use Rattle.paths.specs.declared.Path.{Path}
 use Rattle.paths.specs.Path.{table_from, table_of, WellFormed}
 use Rattle.output.specs.Decimal.{decimal}
 use Rattle.reporting.specs.Fields.{number_fields, number_line}
 use Rattle.reporting.specs.Text.{fields, report_line, taker, item_line, item_lines, path_line, path_lines, wait_lines, acceptance}
+use Rattle.reporting.specs.declared.analyzed.Analyzed.{Analyzed}
+use Rattle.reporting.specs.Analyzed.{analysis_of}
+use Rattle.reporting.proofs.Loops.{all-tables}
 
 -- numbers as fields, and the fields after them
 pub fields-after : (xs : List ℕ) (fs : List (List ℕ)) → fields (map decimal xs ++ fs) ≡ number_fields xs ++ fields fs
@@ -34,14 +35,9 @@ module _ {s t : List ℕ} {i : ℕ} (row : NamedRow s t i) {it : Item} (is : lin
   named-inside = let e = row.holds.is in let n : row.holds.held.name ≡ it.name = cc in subst (λ x. Inside s x) n row.inside
 
   -- its line: four numbers and its name
-  pub item-run : (k : ℕ) (sort took line : ℕ) (by : Option ℕ) {name : List ℕ} → sort ≡ type_number it.ty → taker by ≡ decimal took ∷ decimal line ∷ [] → name ≡ part s it.name → item_line k (record { param = item_in s t i; taken = by }) ≡ ((80 ∷ 44 ∷ []) ++ (decimal k ++ number_fields (sort ∷ took ∷ line ∷ []))) ++ ((44 ∷ name) ++ (10 ∷ []))
+  pub item-run : (k sort took line : ℕ) (by : Option ℕ) {name : List ℕ} → sort ≡ type_number it.ty → taker by ≡ decimal took ∷ decimal line ∷ [] → name ≡ part s it.name → item_line k (record { param = item_in s t i; taken = by }) ≡ ((80 ∷ 44 ∷ []) ++ (decimal k ++ number_fields (sort ∷ took ∷ line ∷ []))) ++ ((44 ∷ name) ++ (10 ∷ []))
   unfolding item_line report_line item_in item_of fields
   item-run k sort took line by e f g = rw (is, f, ← e, g, item_in, item_line) (ap (λ l. 80 ∷ l) (fields-after (k ∷ sort ∷ took ∷ line ∷ []) (part s it.name ∷ [])))
-
--- a path's head and its items
-pub path-run : (p : ℕ) (t : Table) {n : ℕ} → length t ≡ n → path_line p t ≡ number_line (68 ∷ 44 ∷ []) p (n ∷ []) ++ item_lines 0 t
-unfolding path_line report_line fields number_line
-path-run p t e = ap (λ n. number_line (68 ∷ 44 ∷ []) p (n ∷ []) ++ item_lines 0 t) e
 
 -- a table has as many entries as its path has items
 table-full : (s t : List ℕ) (qs : List NamePlace) (x n : ℕ) → n ≤ length qs → length (table_from s t qs x n) ≡ n
@@ -54,6 +50,12 @@ pub table-length : {s t : List ℕ} {p : Path} → WellFormed s t p → length (
 unfolding table_of
 table-length {s} {t} {p} w = let few = w.few in let full = w.full in table-full s t p.places p.taken p.count (omega arith)
 
-pub acceptance-run : (a : Analysis) {n : ℕ} → length a.tables ≡ n → acceptance a ≡ number_line (65 ∷ 44 ∷ []) n [] ++ (path_lines 0 a.tables ++ wait_lines a.waits)
+-- a path's head and its items
+pub path-run : (p : ℕ) {s t : List ℕ} {path : Path} → WellFormed s t path → path_line p (table_of s t path) ≡ number_line (68 ∷ 44 ∷ []) p (path.count ∷ []) ++ item_lines 0 (table_of s t path)
+unfolding path_line report_line fields number_line
+path-run p {s} {t} {path} w = ap (λ n. number_line (68 ∷ 44 ∷ []) p (n ∷ []) ++ item_lines 0 (table_of s t path)) (table-length w)
+
+-- an acceptance's first line, its paths and its waits
+pub acceptance-run : (a : Analyzed) → acceptance (analysis_of a) ≡ number_line (65 ∷ 44 ∷ []) a.declared.count [] ++ (path_lines 0 (analysis_of a).tables ++ wait_lines (analysis_of a).waits)
 unfolding acceptance report_line fields number_line
-acceptance-run a e = ap (λ n. number_line (65 ∷ 44 ∷ []) n [] ++ (path_lines 0 a.tables ++ wait_lines a.waits)) e
+acceptance-run a = ap (λ n. number_line (65 ∷ 44 ∷ []) n [] ++ (path_lines 0 (analysis_of a).tables ++ wait_lines (analysis_of a).waits)) (all-tables a)

@@ -1,6 +1,5 @@
 -- How long the lines of a report can be.
 use Rattle.std.proofs.Common.{◌≡◌, refl, Bool, true, false, ap, List, [], ◌∷◌, ◌++◌, ℕ, suc, ◌+◌, ◌^◌, ◌≤◌, ◌<◌, arith, length, length-append, drop}
-use Rattle.std.specs.Prelude.{⊤}
 use Rattle.std.proofs.Math.Option.{Option, some, none}
 use Rattle.std.proofs.lemmas.List.{length-take, length-drop}
 use Rattle.ast.specs.declared.Type.{«Type» as ItemType}
@@ -16,12 +15,16 @@ use Rattle.reader.specs.Ceilings.{max_bytes}
 use Rattle.reader.specs.Reading.{item}
 use Rattle.names.specs.Items.{item_of, item_in}
 use Rattle.rules.specs.Table.{Table}
-use Rattle.rules.specs.Analyze.{Analysis}
+use Rattle.paths.specs.declared.NamePlace.{NamePlace}
 use Rattle.output.specs.Decimal.{decimal}
 use Rattle.output.proofs.Laws.{decimal-short}
 use Rattle.reporting.specs.Bounds.{refusal_bound, item_bound, items_bound, path_bound, paths_bound, acceptance_bound}
-use Rattle.reporting.specs.Fields.{taken_if}
+use Rattle.reporting.specs.Fields.{taken_if, entry_in}
 use Rattle.reporting.specs.Text.{fields, report_line, taker, item_line, item_lines, path_line, path_lines, wait_lines, acceptance, refusal}
+use Rattle.reporting.specs.declared.analyzed.Analyzed.{Analyzed}
+use Rattle.reporting.specs.Analyzed.{analysis_of}
+use Rattle.reporting.proofs.Loops.{all-tables}
+use Rattle.reporting.proofs.WaitLines.{rows_short}
 
 -- with a comma before each
 abbrev pub commas : List (List ℕ) → ℕ
@@ -64,32 +67,20 @@ type-short ItemType.Number = omega arith
 type-short ItemType.String = omega arith
 type-short ItemType.Boolean = omega arith
 
--- a line that takes an item is numbered in 32 bits
-abbrev pub Numbered : Option ℕ → Type 0
-Numbered none = ⊤
-Numbered (some n) = n < 2 ^ 32
-
--- its two fields
-taker-short : (by : Option ℕ) (fs : List (List ℕ)) → Numbered by → commas (taker by ++ fs) ≤ 22 + commas fs
+-- whether it is taken, and the line that takes it, in 32 bits
+taker-short : (taken : Bool) (n : ℕ) (fs : List (List ℕ)) → n < 2 ^ 32 → commas (taker (taken_if taken n) ++ fs) ≤ 22 + commas fs
 unfolding taker
-taker-short none fs h = omega (arith, decimal-short 0 (omega arith))
-taker-short (some n) fs h = omega (arith, decimal-short 1 (omega arith), decimal-short n h)
+taker-short false n fs h = omega (arith, decimal-short 0 (omega arith))
+taker-short true n fs h = omega (arith, decimal-short 1 (omega arith), decimal-short n h)
 
 -- P, four fields, a name of a listing's bytes
-item-short : (s t : List ℕ) (i k : ℕ) (by : Option ℕ) → k < 2 ^ 32 → Numbered by → length s ≤ max_bytes → length (item_line k (record { param = item_in s t i; taken = by })) ≤ item_bound
+pub entry-short : (s t : List ℕ) (k : ℕ) (q : NamePlace) (taken : Bool) → k < 2 ^ 32 → q.line < 2 ^ 32 → length s ≤ max_bytes → length (item_line k (entry_in s t q taken)) ≤ item_bound
 unfolding item_line
-item-short s t i k by h few short =
-    let p = item_in s t i in
+entry-short s t k q taken h few short =
+    let p = item_in s t q.row in
     let sort = type_number p.ty in
     let name = p.identifier ∷ [] in
-    omega (arith, line-length 80 (decimal k ∷ decimal sort ∷ (taker by ++ name)), decimal-short k h, decimal-short sort (type-short p.ty), taker-short by name few, name-short s t i)
-
-numbered : (taken : Bool) (n : ℕ) → n < 2 ^ 32 → Numbered (taken_if taken n)
-numbered true n h = h
-numbered false n h = tt
-
-pub taken-short : (s t : List ℕ) (i k : ℕ) (taken : Bool) (n : ℕ) → k < 2 ^ 32 → n < 2 ^ 32 → length s ≤ max_bytes → length (item_line k (record { param = item_in s t i; taken = taken_if taken n })) ≤ item_bound
-taken-short s t i k taken n h few short = item-short s t i k (taken_if taken n) h (numbered taken n few) short
+    omega (arith, line-length 80 (decimal k ∷ decimal sort ∷ (taker (taken_if taken q.line) ++ name)), decimal-short k h, decimal-short sort (type-short p.ty), taker-short taken q.line name few, name-short s t q.row)
 
 -- ---- a text that is put piece by piece
 
@@ -114,15 +105,11 @@ path-short p t h few items =
     let count = length t in
     omega (arith, length-append (report_line 68 (decimal p ∷ decimal count ∷ [])) (item_lines 0 t), line-length 68 (decimal p ∷ decimal count ∷ []), decimal-short p h, decimal-short count few)
 
--- 1024 lines of at most 24 bytes
-abbrev pub waits_bound : ℕ
-waits_bound = 24576
-
 -- A and a number, the paths and the waits
-pub acceptance-short : (a : Analysis) → length a.tables < 2 ^ 32 → length (path_lines 0 a.tables) ≤ paths_bound → length (wait_lines a.waits) ≤ waits_bound → length (acceptance a) ≤ acceptance_bound
+pub acceptance-short : (a : Analyzed) → length (path_lines 0 (analysis_of a).tables) ≤ paths_bound → length (acceptance (analysis_of a)) ≤ acceptance_bound
 unfolding acceptance
-acceptance-short a few paths waits =
-    let count = length a.tables in
-    let before = path_lines 0 a.tables in
-    let after = wait_lines a.waits in
-    omega (arith, length-append (report_line 65 (decimal count ∷ [])) (before ++ after), length-append before after, line-length 65 (decimal count ∷ []), decimal-short count few)
+acceptance-short a paths =
+    let count = length (analysis_of a).tables in
+    let before = path_lines 0 (analysis_of a).tables in
+    let after = wait_lines (analysis_of a).waits in
+    omega (arith, length-append (report_line 65 (decimal count ∷ [])) (before ++ after), length-append before after, line-length 65 (decimal count ∷ []), decimal-short count (omega (arith, all-tables a)), rows_short a.rows.table.now a.block)

@@ -3,4 +3,3 @@ pub mod Loops
 pub mod WaitLines
 pub mod Lengths
 pub mod Spelled
-pub mod Counted

@@ -1,6 +1,9 @@
 -- The fields of a line, as the code puts them.
 use Rattle.std.specs.Prelude.{ℕ, Bool, true, false, List, [], ◌∷◌, ◌++◌, map}
 use Rattle.std.proofs.Math.Option.{Option, some, none}
+use Rattle.rules.specs.Table.{Entry}
+use Rattle.names.specs.Items.{item_in}
+use Rattle.paths.specs.declared.NamePlace.{NamePlace}
 use Rattle.output.specs.Decimal.{decimal}
 use Rattle.reporting.specs.Text.{fields}
 
@@ -17,3 +20,7 @@ number_line opening x xs = opening ++ (decimal x ++ fields (map decimal xs))
 abbrev pub taken_if : Bool → ℕ → Option ℕ
 taken_if true n = some n
 taken_if false n = none
+
+-- the item in a place, taken or not by the place's line
+abbrev pub entry_in : List ℕ → List ℕ → NamePlace → Bool → Entry
+entry_in s t q taken = record { param = item_in s t q.row; taken = taken_if taken q.line }

@@ -1,12 +1,14 @@
 // An analyzed contract, and the text of its acceptance.
 ghost use Rattle.std.specs.Prelude.{◌≡◌, ◌≤◌, leb, length};
 ghost use Rattle.reader.specs.Ceilings.{max_bytes};
-ghost use Rattle.names.specs.Items.{NamedRow, item_in};
+ghost use Rattle.names.specs.Items.{NamedRow};
 ghost use Rattle.paths.specs.Path.{table_of, WellFormed};
 ghost use Rattle.reporting.specs.Text.{item_line, item_lines, path_line, path_lines, acceptance};
 ghost use Rattle.reporting.specs.Bounds.{item_bound, items_bound, path_bound, paths_bound, acceptance_bound};
-ghost use Rattle.reporting.specs.Fields.{taken_if};
-ghost use Rattle.reporting.specs.Analyzed.{analysis_of, IsAnalyzed};
+ghost use Rattle.reporting.specs.Fields.{entry_in};
+ghost use Rattle.reporting.specs.Waits.{RowsBetween};
+ghost use Rattle.reporting.specs.Formed.{Formed};
+ghost use Rattle.reporting.specs.FormedProp.{Formed-prop};
 
 use crate::waits::put_waits;
 use crate::{LINE_END, put_fields, put_line, taker};
@@ -15,26 +17,34 @@ use names::item_at;
 use output::{Counter, Sink, put_part};
 use paths::{NamePlace, Path};
 use rows::Rows;
+use taken::is_taken;
 
 // No longer are the lines of the waits: 1024 of at most 24 bytes.
 const MOST_OF_WAITS: usize = 24576;
 
-// A contract that was analyzed: its listing in n rows, its declarations and its paths.
+// A contract that was analyzed: its listing in n rows, its declarations and its paths, all of which can be read.
 #[derive(Clone, Copy)]
 pub struct Analyzed<'a> {
     pub rows: Rows<'a>,
     pub n: usize,
     pub declared: Declared,
     pub paths: &'a [Path; 32],
+    ghost few: { declared.count ≤ 32 },
+    ghost full: { length paths.now ≡ 32 },
+    ghost formed: { Formed rows.listing.now rows.table.now declared paths.now } by { Formed-prop rows.listing.now rows.table.now declared paths.now },
+    ghost short: { length rows.listing.now ≤ max_bytes },
+    ghost block: { RowsBetween rows.table.now declared.block n },
 }
 
 impl Analyzed<'_> {
+    ghost use Rattle.reporting.specs.Analyzed.{analysis_of};
+
     // P,position,type,taken,listing line that takes it,name: of the item in a place.
     fn put_item<S: Sink>(&self, sink: &mut S, k: u32, place: NamePlace, taken: bool)
         requires row { NamedRow self.now.rows.listing.now self.now.rows.table.now place.row }
-        requires room { S.fits sink.old (item_line k (record { param = item_in self.now.rows.listing.now self.now.rows.table.now place.row; taken = taken_if taken place.line })) }
-        ensures text { sink.new ≡ S.after sink.old (item_line k (record { param = item_in self.now.rows.listing.now self.now.rows.table.now place.row; taken = taken_if taken place.line })) }
-        ensures short { length self.now.rows.listing.now ≤ max_bytes → length (item_line k (record { param = item_in self.now.rows.listing.now self.now.rows.table.now place.row; taken = taken_if taken place.line })) ≤ item_bound }
+        requires room { S.fits sink.old (item_line k (entry_in self.now.rows.listing.now self.now.rows.table.now place taken)) }
+        ensures text { sink.new ≡ S.after sink.old (item_line k (entry_in self.now.rows.listing.now self.now.rows.table.now place taken)) }
+        ensures short { length (item_line k (entry_in self.now.rows.listing.now self.now.rows.table.now place taken)) ≤ item_bound }
     {
         let item = item_at(self.rows.table, place.row as usize);
         let (took, line) = taker(taken, place.line);
@@ -48,13 +58,11 @@ impl Analyzed<'_> {
         requires formed { WellFormed self.now.rows.listing.now self.now.rows.table.now path }
         requires room { S.fits sink.old (item_lines 0 (table_of self.now.rows.listing.now self.now.rows.table.now path)) }
         ensures text { sink.new ≡ S.after sink.old (item_lines 0 (table_of self.now.rows.listing.now self.now.rows.table.now path)) }
-        ensures short { length self.now.rows.listing.now ≤ max_bytes → length (item_lines 0 (table_of self.now.rows.listing.now self.now.rows.table.now path)) ≤ items_bound }
+        ensures short { length (item_lines 0 (table_of self.now.rows.listing.now self.now.rows.table.now path)) ≤ items_bound }
     {
-        let mut taken = path.taken;
         for k in 0..path.count {
             let place = path.places[k as usize];
-            self.put_item(sink, k, place, taken % 2 == 1);
-            taken /= 2;
+            self.put_item(sink, k, place, is_taken(path.taken, k));
         }
     }
 
@@ -63,7 +71,7 @@ impl Analyzed<'_> {
         requires formed { WellFormed self.now.rows.listing.now self.now.rows.table.now path }
         requires room { S.fits sink.old (path_line p (table_of self.now.rows.listing.now self.now.rows.table.now path)) }
         ensures text { sink.new ≡ S.after sink.old (path_line p (table_of self.now.rows.listing.now self.now.rows.table.now path)) }
-        ensures short { length self.now.rows.listing.now ≤ max_bytes → length (path_line p (table_of self.now.rows.listing.now self.now.rows.table.now path)) ≤ path_bound }
+        ensures short { length (path_line p (table_of self.now.rows.listing.now self.now.rows.table.now path)) ≤ path_bound }
     {
         put_line(sink, b"D,", p, &[path.count]);
         self.put_items(sink, path);
@@ -71,7 +79,6 @@ impl Analyzed<'_> {
 
     // Each path, from the first on.
     fn put_paths<S: Sink>(&self, sink: &mut S)
-        requires ready { IsAnalyzed self.now }
         requires room { S.fits sink.old (path_lines 0 (analysis_of self.now).tables) }
         ensures text { sink.new ≡ S.after sink.old (path_lines 0 (analysis_of self.now).tables) }
         ensures short { length (path_lines 0 (analysis_of self.now).tables) ≤ paths_bound }
@@ -83,7 +90,6 @@ impl Analyzed<'_> {
 
     // A,paths, each path, and after the last one the waits in the rows of the block.
     pub fn put_acceptance<S: Sink>(&self, sink: &mut S)
-        requires ready { IsAnalyzed self.now }
         requires room { S.fits sink.old (acceptance (analysis_of self.now)) }
         ensures text { sink.new ≡ S.after sink.old (acceptance (analysis_of self.now)) }
         ensures short { length (acceptance (analysis_of self.now)) ≤ acceptance_bound }
@@ -95,7 +101,6 @@ impl Analyzed<'_> {
 
     // Whether output has room for the acceptance. The paths are counted; the waits only where it depends on them.
     pub fn has_room(&self, output: &[u8]) -> bool
-        requires { IsAnalyzed self.now }
         ensures { result ≡ leb (length (acceptance (analysis_of self.now))) (length output.now) }
     {
         let mut counter = Counter { length: 0 };

@@ -13,7 +13,7 @@ use output::{Sink, put_field};
 pub mod analyzed; // analyzed.rt: an acceptance
 mod waits; // waits.rt: the lines of the waits
 
-const LINE_END: u8 = 10;
+const LINE_END: u8 = b'\n';
 
 // A line's letter with its comma, a number, and a field for each number of the rest.
 fn put_fields<S: Sink>(sink: &mut S, opening: &[u8], first: u32, rest: &[u32])

@@ -12,6 +12,9 @@ use text::Place;
 // How many words a row has.
 pub const ROW_WORDS: usize = 9;
 
+// How many words of work memory are asked.
+pub const WORK_WORDS: usize = 16384;
+
 // A listing, and the rows of its lines.
 #[derive(Clone, Copy)]
 pub struct Rows<'a> {
@@ -108,5 +111,5 @@ pub fn clear(work: &mut [u32])
     requires { work_words ≤ length work.old }
     ensures { work.new ≡ cleared work.old }
 {
-    work[..16384].fill(0);
+    work[..WORK_WORDS].fill(0);
 }

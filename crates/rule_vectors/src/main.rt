@@ -3,13 +3,12 @@
 #![tactic(auto)]
 
 use anyhow::{Context, Result};
-use records::{FILLED, ReadError, Records, Refusal, Tally, print_cut_short, wrong_words};
+use records::{
+    FILLED, LENT, LONGEST_LISTING, ReadError, Records, Refusal, Tally, print_cut_short, wrong_words,
+};
 use std::fs::File;
 use std::io::Read;
 use std::{fmt, io};
-
-// No listing of a record is longer.
-const LONGEST: usize = 32768;
 
 // What Check answered.
 #[derive(Clone, Copy)]
@@ -27,7 +26,7 @@ impl fmt::Display for Answer {
 }
 
 fn examine(rt: &impl Print, listing: &[u8], tally: &mut Tally) -> io::Result<()> {
-    let mut work = [FILLED; 16400];
+    let mut work = [FILLED; LENT];
     let refusal = examiner::check(listing, &mut work).err().map(Refusal);
     let answer = Answer { refusal };
     println!(rt; "{},{answer}", tally.listings)?;
@@ -49,7 +48,11 @@ fn examine_all<R: Read + Drop>(
 fn main(rt: HostRuntime) -> Result<()> {
     let file = File::open(&rt, "listings").context("listings")?;
     let mut tally = Tally::default();
-    let read = examine_all(&rt, Records::new(rt.alloc(), file, LONGEST), &mut tally);
+    let read = examine_all(
+        &rt,
+        Records::new(rt.alloc(), file, LONGEST_LISTING),
+        &mut tally,
+    );
     print_cut_short(&rt, tally.listings, read)?;
     println!(rt; "{tally}")?;
     Ok(())

@@ -20,10 +20,10 @@ use Rattle.reader.specs.Reading.{item}
 use Rattle.reader.specs.Spells.{SpellsItems}
 use Rattle.rules.specs.Result.{Result, ◌>>=◌}
 use Rattle.rules.specs.Table.{Table, params, among, enter, build, build_all}
-use Rattle.names.specs.Items.{ItemsAt, items_down}
+use Rattle.names.specs.Items.{ItemsAt}
 use Rattle.names.proofs.Laws.{items-are}
 use Rattle.paths.specs.declared.Path.{Path}
-use Rattle.paths.specs.Path.{table_of, no_path, result_of}
+use Rattle.paths.specs.Path.{table_of, no_path}
 use Rattle.paths.specs.Tables.{Built}
 use Rattle.declarations.specs.declared.Declared.{Declared}
 use Rattle.declarations.specs.Items.{item_rows, Items, DeclaredAs, Given}

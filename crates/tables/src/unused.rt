@@ -12,8 +12,8 @@ pub fn check_unused(table: &[u32], d: Declared, paths: &[Path; 32]) -> Result<()
     requires { (s : List ℕ) × Ready s table.now d paths.now }
     ensures { (s : List ℕ) → Ready s table.now d paths.now → result ≡ unused_all (tables_of s table.now d paths.now) }
 {
-    for p in 0..d.count as usize {
-        check_unused_variable(table, paths[p])?;
+    for path in &paths[..d.count as usize] {
+        check_unused_variable(table, *path)?;
     }
     Ok(())
 }

@@ -131,7 +131,7 @@ trailing-free (suc w) x h = go (parity x) (trailing-free w (x / 2) (omega (arith
     go (inl e) ih = not-even w x h e ∙ sym (free-even w x e)
     go (inr e) ih = not-odd w x h e ∙ ap suc ih ∙ sym (free-odd w x e)
 
--- `trailing_zeros(!x)`
+-- `trailing_ones(x)`
 pub first_free_counted : (x : ℕ) → x < 2 ^ 32 → count_trailing_zeros 32 ((2 ^ 32 - 1) - x) ≡ first_free x
 unfolding first_free
 first_free_counted x h = trailing-free 32 x h
@@ -195,7 +195,7 @@ run-counts (suc w) x h = go (parity x) (run-counts w (x / 2) (omega (arith, pow-
         let one_more : ones x ≡ suc (ones (x / 2)) = omega (arith, ones_step x) in
         ap₂ eqb one_more (not-odd w x h e) ∙ same_test (suc (ones (x / 2))) (suc (count_trailing_zeros w ((2 ^ w - 1) - x / 2))) (ones (x / 2)) (count_trailing_zeros w ((2 ^ w - 1) - x / 2)) (λ q. omega arith) (λ q. ap suc q) ∙ ih ∙ sym (run-odd w x e)
 
--- `count_ones(x) == trailing_zeros(!x)`
+-- `count_ones(x) == trailing_ones(x)`
 pub run_test : (x : ℕ) → x < 2 ^ 32 → eqb (ones x) (count_trailing_zeros 32 ((2 ^ 32 - 1) - x)) ≡ is_run x
 unfolding is_run
 run_test x h = run-counts 32 x h

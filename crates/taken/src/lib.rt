@@ -27,7 +27,7 @@ pub fn with_bit(taken: u32, k: u32) -> u32
 pub fn first_free(taken: u32) -> u32
     ensures { result ≡ first_free taken }
 {
-    (!taken).trailing_zeros()
+    taken.trailing_ones()
 }
 
 // Whether the taken positions run from position 0.
@@ -35,5 +35,5 @@ pub fn first_free(taken: u32) -> u32
 pub fn is_top_run(taken: u32) -> bool
     ensures { result ≡ is_run taken }
 {
-    taken.count_ones() == (!taken).trailing_zeros()
+    taken.count_ones() == taken.trailing_ones()
 }

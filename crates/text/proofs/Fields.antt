@@ -10,6 +10,8 @@ use borrow.Author.Tests.{ltb-true, ltb-false, leb-true, le-leb, eq-eqb, ne_eqb}
 use lib.Dec.{leb, ltb}
 use lib.ListN.{length, drop, get_or, get_elem?, drop_of_length-le}
 use lib.Seq.{drop-cons}
+use Rattle.std.specs.Prelude.{not}
+use Rattle.std.specs.List.{position_or_len}
 use Rattle.text.specs.Text.{Got, got, failed, ◌>>=◌, yield, fail, guard, byte, within, is_digit, digits, decimal, capped, up_to, word, index, choice, run, run_end, position_after}
 use Rattle.text.proofs.Every.{Every}
 use Rattle.text.proofs.Places.{run-from, run_length, run-total, got-place}
@@ -143,17 +145,19 @@ module _ (p : ℕ → Bool) where
       go true e ih = rw (e, run) ih
       go false e ih = rw (e, run)
 
-  pub end_step : (s : List ℕ) (i : ℕ) → i < length s → p (get_or s i 0) ≡ true → run_end p s (i + 1) ≡ run_end p s i
+  end_step : (s : List ℕ) (i : ℕ) → i < length s → p (get_or s i 0) ≡ true → run_end p s (i + 1) ≡ run_end p s i
   unfolding run_end
   end_step s i h d = rw (run_end, run_step 0 s i h d) (sym (end-count (drop (i + 1) s) 0 (i + 1)))
 
-  pub end-stop : (s : List ℕ) (i : ℕ) → i < length s → p (get_or s i 0) ≡ false → i ≡ run_end p s i
-  unfolding run_end
-  end-stop s i h d = rw (run_end, run-stop 0 s i h d)
-
-  pub end-past : (s : List ℕ) (i : ℕ) → length s ≤ i → i ≡ run_end p s i
-  unfolding run_end
-  end-past s i h = rw (run_end, run_past 0 s i h)
+  -- as std counts the bytes before the first that fails
+  pub end-first : (u : List ℕ) (k n : ℕ) → position_after (run p k n u) ≡ n + position_or_len (λ b. not (p b)) u
+  unfolding run
+  end-first [] k n = omega arith
+  end-first (x ∷ u) k n = go (p x) refl (end-first u (suc k) (suc n))
+    where
+      go : (b : Bool) → p x ≡ b → position_after (run p (suc k) (suc n) u) ≡ suc n + position_or_len (λ b. not (p b)) u → position_after (run p k n (x ∷ u)) ≡ n + position_or_len (λ b. not (p b)) (x ∷ u)
+      go true e ih = rw (e, run) (ih ∙ omega arith)
+      go false e ih = let q : n ≡ n + 0 = omega arith in rw (e, run) q
 
   -- many bytes at once
   pub end-steps : (s : List ℕ) (i n : ℕ) → i + n ≤ length s → Every (λ j. p (get_or s (i + j) 0)) n → run_end p s (i + n) ≡ run_end p s i

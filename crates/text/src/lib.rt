@@ -39,11 +39,7 @@ impl<'a> Cursor<'a> {
     pub fn rest(self) -> &'a [u8]
         ensures { result.now ≡ drop self.entry.at self.entry.listing.now }
     {
-        if self.at < self.listing.len() {
-            &self.listing[self.at..]
-        } else {
-            &[]
-        }
+        self.listing.get(self.at..).unwrap_or(&[])
     }
 
     // The byte `b` itself.
@@ -65,12 +61,8 @@ impl<'a> Cursor<'a> {
         ensures { (p : ℕ → Bool) → ((b : ℕ) (r : Bool) → F.post passes b r → r ≡ p b) → result ≡ run_end p self.entry.listing.now self.entry.at }
     {
         let rest = self.rest();
-        for (k, &b) in rest.iter().enumerate() {
-            if !passes(b) {
-                return self.at + k;
-            }
-        }
-        self.at + rest.len()
+        let count = rest.iter().position(|&b| !passes(b));
+        self.at + count.unwrap_or(rest.len())
     }
 
     // The position after the hex digits from here on: 16 at a time while all are digits, the rest byte by byte. A byte is read at most twice.

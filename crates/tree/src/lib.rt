@@ -2,7 +2,7 @@
 #![tactic(auto)]
 
 ghost use Rattle.std.specs.Prelude.{◌≡◌, true, false, List, ℕ, ◌<◌, leb, eqb};
-ghost use Rattle.rows.specs.Rows.{line_in, line_of, HasRow, HasRows};
+ghost use Rattle.rows.specs.Rows.{line_in, line_of, HasRows};
 ghost use Rattle.tree.specs.Table.{asked};
 ghost use Rattle.tree.specs.Walk.{form_of, parts_of, fits_here, line_number, refusal, due_line, due, node, depth_of, deepest, finished};
 
@@ -15,6 +15,14 @@ use rows::{Words, row_in};
 pub struct Lines {
     pub count: usize,
     pub ended: bool,
+}
+
+// The lines of a listing, as rows of a table.
+#[derive(Clone, Copy)]
+pub struct Listed<'a> {
+    pub table: &'a [u32],
+    pub lines: Lines,
+    pub ghost room: { HasRows table.now lines.count },
 }
 
 // The kinds of line, by where they may stand.
@@ -30,7 +38,7 @@ pub enum Kind {
 }
 
 // The ceilings.
-const MAX_LINES: usize = 1024;
+pub const MAX_LINES: usize = 1024;
 
 const MAX_DECLARATIONS: u32 = 32;
 
@@ -223,20 +231,13 @@ fn due_line(form: Form, i: usize, kind: Kind, left: Left) -> Result<Form, Compil
 
 // What stands as the line numbered i, where one of this kind is due: 2, 3, 4 in this order.
 #[tactic(auto, unfolding(crate::specs::Walk::due, crate::specs::Table::asked, rows::specs::Rows::line_in))]
-fn line_due(
-    table: &[u32],
-    lines: Lines,
-    i: usize,
-    kind: Kind,
-    left: Left,
-) -> Result<Form, CompileError>
-    requires { HasRows table.now lines.count }
-    ensures { result ≡ due kind left i (asked table.now lines i) }
+fn line_due(listed: &Listed<'_>, i: usize, kind: Kind, left: Left) -> Result<Form, CompileError>
+    ensures { result ≡ due kind left i (asked listed.now.table.now listed.now.lines i) }
 {
-    if i < lines.count {
-        return due_line(Form::from(row_in(table, i)), i, kind, left);
+    if i < listed.lines.count {
+        return due_line(Form::from(row_in(listed.table, i)), i, kind, left);
     }
-    if lines.ended {
+    if listed.lines.ended {
         Err(refuse(ErrorKind::UnexpectedLine, i))
     } else {
         Err(refuse(ErrorKind::MalformedLine, i))
@@ -260,40 +261,31 @@ pub fn read_end(lines: Lines, i: usize) -> Result<usize, CompileError>
 // A node of this kind, from the line numbered i on.
 #[cycle(read_node_read_parts)]
 #[tactic(auto, using(crate::proofs::Walk::walk_steps))]
-fn read_node(
-    table: &[u32],
-    lines: Lines,
-    i: usize,
-    kind: Kind,
-    left: Left,
-) -> Result<usize, CompileError>
-    requires { HasRows table.now lines.count }
-    ensures { (f : ℕ) → depth_of kind left < f → result ≡ node f table.now lines left kind i }
+fn read_node(listed: &Listed<'_>, i: usize, kind: Kind, left: Left) -> Result<usize, CompileError>
+    ensures { (f : ℕ) → depth_of kind left < f → result ≡ node f listed.now.table.now listed.now.lines left kind i }
 {
-    let form = line_due(table, lines, i, kind, left)?;
+    let form = line_due(listed, i, kind, left)?;
     let after = i + 1;
     if form.count == 0 {
         return Ok(after);
     }
-    read_parts(table, lines, after, form, left.below(kind))
+    read_parts(listed, after, form, left.below(kind))
 }
 
 // The parts of a line of this form, from the line numbered i on.
 #[cycle(read_node_read_parts)]
 #[tactic(auto, using(crate::proofs::Walk::walk_steps))]
 pub fn read_parts(
-    table: &[u32],
-    lines: Lines,
+    listed: &Listed<'_>,
     i: usize,
     form: Form,
     left: Left,
 ) -> Result<usize, CompileError>
-    requires { HasRows table.now lines.count }
-    ensures { (f : ℕ) → deepest form left < f → result ≡ parts_of (node f table.now lines left) form i }
+    ensures { (f : ℕ) → deepest form left < f → result ≡ parts_of (node f listed.now.table.now listed.now.lines left) form i }
 {
     let mut next = i;
     for k in 0..form.count {
-        next = read_node(table, lines, next, form.part(k), left)?;
+        next = read_node(listed, next, form.part(k), left)?;
     }
     Ok(next)
 }

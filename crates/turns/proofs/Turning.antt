@@ -5,8 +5,8 @@ use mathlib.Core.Bool.{true, false}
 use mathlib.Core.List.{List}
 use mathlib.Core.Path.{◌≡◌, sym, ◌∙◌, ap}
 use Rattle.std.specs.Prelude.{Some, None}
+use Rattle.std.specs.Borrow.{Bor}
 use Rattle.ast.specs.declared.CompileError.{CompileError}
-use Rattle.ast.specs.Tree.{Name}
 use Rattle.reporting.specs.Text.{WitnessItem, item_of}
 use Rattle.names.specs.declared.Item.{Item}
 use Rattle.declarations.specs.Noted.{item_at, found}
@@ -44,15 +44,15 @@ module _ (s : List ℕ) (ps : List (List Item)) (r : Rehearsal) where
       unfolding lay_in is_item
       lay-right f = rw (found-is (item_at ps r.path r.due) e, lay_in) (rw f (ap (λ k. due_in ps (onward r.path k)) (add-one r.due)))
 
-  module _ (x : Name) {turn : Turn} {a : Rehearsed} where
-    pub turns-open : turn ≡ Open → a ≡ due_in ps (onward r.path 0) → a ≡ turn_in s ps r turn x
+  module _ {turn : Turn} {a : Rehearsed} where
+    pub turns-open : turn ≡ Open → a ≡ due_in ps (onward r.path 0) → a ≡ turn_in s ps r turn
     unfolding turn_in beginning
-    turns-open e f = f ∙ sym (ap (λ t. turn_in s ps r t x) e)
+    turns-open e f = f ∙ sym (ap (turn_in s ps r) e)
 
-    pub turns-lay : {k : ℕ} → turn ≡ Lay k → a ≡ lay_in s ps r (record { name = x; ty = k }) → a ≡ turn_in s ps r turn x
+    pub turns-lay : {x : Bor (List ℕ)} {k : ℕ} → turn ≡ Lay x k → a ≡ lay_in s ps r (record { name = x.now; ty = k }) → a ≡ turn_in s ps r turn
     unfolding turn_in
-    turns-lay e f = f ∙ sym (ap (λ t. turn_in s ps r t x) e)
+    turns-lay e f = f ∙ sym (ap (turn_in s ps r) e)
 
-    pub turns-back : {due : ℕ} → turn ≡ TakeBack → due ≡ lowered 0 r.due → a ≡ due_in ps (onward r.path due) → a ≡ turn_in s ps r turn x
+    pub turns-back : {due : ℕ} → turn ≡ TakeBack → due ≡ lowered 0 r.due → a ≡ due_in ps (onward r.path due) → a ≡ turn_in s ps r turn
     unfolding turn_in beginning
-    turns-back e g f = f ∙ ap (λ k. due_in ps (onward r.path k)) g ∙ sym (ap (λ t. turn_in s ps r t x) e)
+    turns-back e g f = f ∙ ap (λ k. due_in ps (onward r.path k)) g ∙ sym (ap (turn_in s ps r) e)

@@ -1,7 +1,7 @@
 -- A turn on the items that rows declare: the three operations in one.
 use Rattle.std.specs.Prelude.{ℕ, suc, Bool, true, false, List, ltb, ◌≡◌, Ok, Err}
 use Rattle.std.proofs.Math.Option.{Option, some, none}
-use Rattle.ast.specs.Tree.{Name, StackParam}
+use Rattle.ast.specs.Tree.{StackParam}
 use Rattle.rows.specs.Rows.{line_in}
 use Rattle.reader.specs.Reading.{item}
 use Rattle.reporting.specs.Text.{WitnessItem, item_of}
@@ -39,11 +39,11 @@ is_item s x (some y) = same_item x (item_of (param_of s y))
 unfoldable pub lay_in : List ℕ → List (List Item) → Rehearsal → WitnessItem → Rehearsed
 lay_in s ps r x = elim (is_item s x (item_at ps r.path r.due)) [ true ↦ due_in ps (onward r.path (suc r.due)) | false ↦ Refused not_due ]
 
--- a turn; only Lay looks at the name
-unfoldable pub turn_in : List ℕ → List (List Item) → Rehearsal → Turn → Name → Rehearsed
-turn_in s ps r Open x = due_in ps (onward r.path (beginning s))
-turn_in s ps r (Lay t) x = lay_in s ps r (record { name = x; ty = t })
-turn_in s ps r TakeBack x = due_in ps (onward r.path (lowered (beginning s) r.due))
+-- a turn
+unfoldable pub turn_in : List ℕ → List (List Item) → Rehearsal → Turn → Rehearsed
+turn_in s ps r Open = due_in ps (onward r.path (beginning s))
+turn_in s ps r (Lay x t) = lay_in s ps r (record { name = x.now; ty = t })
+turn_in s ps r TakeBack = due_in ps (onward r.path (lowered (beginning s) r.due))
 
 -- whether a path is one of so many: 31 if it is not
 unfoldable pub check_path : ℕ → ℕ → Checked

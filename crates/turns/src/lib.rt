@@ -34,11 +34,11 @@ pub enum Rehearsed {
     Refused(CompileError),
 }
 
-// What is done on a rehearsal: it is opened, an item of this type is laid, or the item laid last is taken back.
+// What is done on a rehearsal: it is opened, an item of this name and this type is laid, or the item laid last is taken back.
 #[derive(Clone, Copy)]
-pub enum Turn {
+pub enum Turn<'a> {
     Open,
-    Lay(u32),
+    Lay(&'a [u8], u32),
     TakeBack,
 }
 
@@ -67,14 +67,13 @@ fn lay_in(rows: &Rows<'_>, d: Declared, r: Rehearsal, name: &[u8], ty: u32) -> R
     requires { RowsAt rows.now.listing.now rows.now.table.now d }
     ensures { (ps : List (List Item-as-Item)) → Declares rows.now.table.now ps → result ≡ lay_in rows.now.listing.now ps r (record { name = name.entry.now; ty = ty }) }
 {
-    let Some(x) = item_in(rows.table, d, r.path, r.due) else {
-        return Rehearsed::Refused(CompileError::unplaced(ErrorKind::NotDue));
-    };
-    if !is_item(rows.listing, x, name, ty) {
-        return Rehearsed::Refused(CompileError::unplaced(ErrorKind::NotDue));
+    match item_in(rows.table, d, r.path, r.due) {
+        Some(x) if is_item(rows.listing, x, name, ty) => {
+            let due = r.due + 1;
+            shown_in(rows.table, d, Rehearsal { due, ..r })
+        }
+        _ => Rehearsed::Refused(CompileError::unplaced(ErrorKind::NotDue)),
     }
-    let due = r.due + 1;
-    shown_in(rows.table, d, Rehearsal { due, ..r })
 }
 
 // One position less, unless it is the beginning or above it.
@@ -86,16 +85,16 @@ fn lowered(begin: u32, due: u32) -> u32
 }
 
 // A turn on a path that is there.
-fn turn_in(rows: &Rows<'_>, d: Declared, r: Rehearsal, turn: Turn, name: &[u8]) -> Rehearsed
+fn turn_in(rows: &Rows<'_>, d: Declared, r: Rehearsal, turn: Turn<'_>) -> Rehearsed
     requires { RowsAt rows.now.listing.now rows.now.table.now d }
-    ensures { (ps : List (List Item-as-Item)) → Declares rows.now.table.now ps → result ≡ turn_in rows.now.listing.now ps r turn name.now }
+    ensures { (ps : List (List Item-as-Item)) → Declares rows.now.table.now ps → result ≡ turn_in rows.now.listing.now ps r turn.entry }
 {
     match turn {
         Turn::Open => {
             let due = BEGINNING;
             shown_in(rows.table, d, Rehearsal { due, ..r })
         }
-        Turn::Lay(ty) => lay_in(rows, d, r, name, ty),
+        Turn::Lay(name, ty) => lay_in(rows, d, r, name, ty),
         Turn::TakeBack => {
             let due = lowered(BEGINNING, r.due);
             shown_in(rows.table, d, Rehearsal { due, ..r })
@@ -122,15 +121,14 @@ pub fn turn_by(
     d: Declared,
     answer: Result<(), CompileError>,
     r: Rehearsal,
-    turn: Turn,
-    name: &[u8],
+    turn: Turn<'_>,
 ) -> Rehearsed
     requires { RowsAt rows.now.listing.now rows.now.table.now d }
-    ensures { (ps : List (List Item-as-Item)) → Declares rows.now.table.now ps → result ≡ turn_by (tests answer d.count r) (turn_in rows.now.listing.now ps r turn name.now) }
+    ensures { (ps : List (List Item-as-Item)) → Declares rows.now.table.now ps → result ≡ turn_by (tests answer d.count r) (turn_in rows.now.listing.now ps r turn.entry) }
 {
     let there = check_path(d.count, r.path);
     match answer.and(there) {
         Err(x) => Rehearsed::Refused(x),
-        Ok(()) => turn_in(rows, d, r, turn, name),
+        Ok(()) => turn_in(rows, d, r, turn),
     }
 }

@@ -5,13 +5,11 @@ ghost use Rattle.std.specs.Prelude.{◌≡◌};
 ghost use Rattle.rules.specs.Types.{string, number, truth, hashed, general};
 ghost use Rattle.operands.specs.Typed.{ExpressionUnder, TwoUnder, Checks, ChecksTwo, Answers, SpellsTwo, rule_of, compare_two};
 
-use ast::{BinaryCompareOp, CompileError, ErrorKind, Location, Type};
+use ast::{BinaryCompareOp, CompileError, ErrorKind, Location, Type, UnaryMathOp};
 use listing::ExpressionLine;
 use nodes::{expression_at, loc_at};
 use operands::signatures::check_factor;
-use operands::{
-    Context, check_ascii, check_variable_type, is_not, judge_compare, sort_at, then_refuse,
-};
+use operands::{Context, check_ascii, check_variable_type, judge_compare, sort_at};
 use rows::Rows;
 
 // String: a literal, a hash, a variable of type String.
@@ -54,13 +52,10 @@ pub fn check_type_numeric(
         ExpressionLine::BinaryMathExpression(..) => {
             check_both(rows, context, next, Type::Number)
         }
-        ExpressionLine::UnaryMathExpression(l, op) => {
-            if is_not(op) {
-                Err(CompileError::new(ErrorKind::InvalidOperation, l))
-            } else {
-                check_type_numeric(rows, context, next)
-            }
-        }
+        ExpressionLine::UnaryMathExpression(l, op) => match op {
+            UnaryMathOp::Not => Err(CompileError::new(ErrorKind::InvalidOperation, l)),
+            _ => check_type_numeric(rows, context, next),
+        },
         ExpressionLine::ByteExpression(_) => check_type(rows, context, i),
         _ => Err(CompileError::new(ErrorKind::InvalidOperation, loc_at(rows.table, i))),
     }
@@ -87,15 +82,16 @@ pub fn check_type_boolean(
         ExpressionLine::CompareExpression(..) | ExpressionLine::CheckSigExpression(_) => {
             check_type(rows, context, i)
         }
-        ExpressionLine::UnaryMathExpression(l, op) => {
-            if is_not(op) {
-                check_type_boolean(rows, context, next)
-            } else {
-                then_refuse(check_type_numeric(rows, context, i), l)
+        ExpressionLine::UnaryMathExpression(l, op) => match op {
+            UnaryMathOp::Not => check_type_boolean(rows, context, next),
+            _ => {
+                check_type_numeric(rows, context, i)?;
+                Err(CompileError::new(ErrorKind::InvalidOperation, l))
             }
-        }
+        },
         ExpressionLine::BinaryMathExpression(l, _) | ExpressionLine::ByteExpression(l) => {
-            then_refuse(check_type_numeric(rows, context, i), l)
+            check_type_numeric(rows, context, i)?;
+            Err(CompileError::new(ErrorKind::InvalidOperation, l))
         }
         _ => Err(CompileError::new(ErrorKind::InvalidOperation, loc_at(rows.table, i))),
     }
@@ -141,19 +137,16 @@ pub fn check_type(rows: &Rows<'_>, context: Context, i: usize) -> Result<usize, 
         ExpressionLine::BinaryMathExpression(..) => {
             check_both(rows, context, next, Type::Number)
         }
-        ExpressionLine::UnaryMathExpression(_, op) => {
-            if is_not(op) {
-                check_type_boolean(rows, context, next)
-            } else {
-                check_type_numeric(rows, context, next)
-            }
-        }
+        ExpressionLine::UnaryMathExpression(_, op) => match op {
+            UnaryMathOp::Not => check_type_boolean(rows, context, next),
+            _ => check_type_numeric(rows, context, next),
+        },
         ExpressionLine::UnaryCryptoExpression(..) => {
             check_type_crypto_operand(rows, context, next)
         }
         ExpressionLine::ByteExpression(_) => {
-            let operand = check_type_string(rows, context, next);
-            check_ascii(rows, next, operand)
+            let n = check_type_string(rows, context, next)?;
+            check_ascii(rows, next, n)
         }
         ExpressionLine::CheckSigExpression(_) => check_factor(rows, context, next),
     }

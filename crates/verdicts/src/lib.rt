@@ -4,7 +4,7 @@
 ghost use Rattle.std.specs.Prelude.{◌≡◌, length, Ok, Err};
 ghost use Rattle.ast.specs.Tree.{fault, unplaced};
 ghost use Rattle.reporting.specs.Text.{text_of};
-ghost use Rattle.reporting.specs.Analyzed.{analysis_of, IsAnalyzed};
+ghost use Rattle.reporting.specs.Analyzed.{analysis_of};
 ghost use Rattle.verdicts.specs.Reports.{reported, written};
 
 use ast::{CompileError, ErrorKind};
@@ -49,7 +49,6 @@ pub fn report_refusal(output: &mut [u8], x: CompileError) -> Reported
 
 // An acceptance and its text, if output has room for it.
 pub fn report_acceptance(analyzed: &Analyzed<'_>, output: &mut [u8]) -> Reported
-    requires { IsAnalyzed analyzed.now }
     ensures value { result ≡ reported (Ok (analysis_of analyzed.now)) (length output.old) }
     ensures output_after { output.new ≡ written (text_of (Ok (analysis_of analyzed.now))) output.old }
 {

@@ -8,10 +8,10 @@ pub returns-in-None : goal.returns-in-None
 unfolding variable of_type
 returns-in-None g c d p q h = rw (found_none _ (sym (c.in-None.ensures d q))) (ap Err c.new.ensures)
 
-pub returns-then-wanted : goal.returns-then-wanted
+pub returns-in-Some : goal.returns-in-Some
 unfolding variable of_type or17
-returns-then-wanted g c d p q h = rw (found_some _ (sym (c.in-Some.ensures d q)), sym (h _ _ c.wanted.ensures) ∙ c.if-wanted.true)
+returns-in-Some g c d p q h = rw (found_some _ (sym (c.in-Some.ensures d q)), sym (h _ _ c.wanted.ensures) ∙ c.if-wanted.true)
 
-pub returns-else-wanted : goal.returns-else-wanted
+pub returns-in-Some-2 : goal.returns-in-Some-2
 unfolding variable of_type or17
-returns-else-wanted g c d p q h = rw (found_some _ (sym (c.in-Some.ensures d q)), sym (h _ _ c.wanted.ensures) ∙ c.if-wanted.false) (ap Err c.new-else-wanted.ensures)
+returns-in-Some-2 g c d p q h = rw (found_some _ (sym (c.in-Some.ensures d q)), sym (h _ _ c.wanted.ensures) ∙ c.if-wanted.false) (ap Err c.new-in-Some-2.ensures)

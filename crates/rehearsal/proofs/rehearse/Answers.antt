@@ -13,7 +13,7 @@ use Rattle.rehearsal.proofs.rehearse.Goals as goal
 pub returns-in-Err-clause-value : goal.returns-in-Err-clause-value
 returns-in-Err-clause-value c =
     let a = c.args in
-    refuses a.listing.now _ a.r a.turn a.name.now (c.examine-turned.ensures.refused _ c.in-Err.is).0
+    refuses a.listing.now _ a.r a.turn (c.examine-turned.ensures.refused _ c.in-Err.is).0
 
 pub returns-in-Ok : goal.returns-in-Ok
 returns-in-Ok c =
@@ -23,9 +23,9 @@ returns-in-Ok c =
     let st = subst (λ s. ContractAt s m.rows.now.table.now m.count) m.listing m.given.stands in
     let sp = subst (λ s. SpellsContract (line_in m.rows.now.table.now) s m.contract m.count) m.listing m.spells in
     let count = (m.given.declared m.contract m.spells).count in
-    let is : c.in-Ok.x ≡ turn_by (tests (answer (analyze_of m.contract)) (length m.contract.declarations) a.r) (turn_in s (items s) a.r a.turn a.name.now) = search rules in
+    let is : c.in-Ok.x ≡ turn_by (tests (answer (analyze_of m.contract)) (length m.contract.declarations) a.r) (turn_in s (items s) a.r a.turn) = search rules in
     record {
-      value = is ∙ turns s _ a.r a.turn a.name.now st m.contract sp m.declares m.analyzed;
+      value = is ∙ turns s _ a.r a.turn st m.contract sp m.declares m.analyzed;
       work_after = c.examine-turned.ensures.work_after;
-      due_inside = subst (DueInside s) (sym is) (turned-inside s 0 a.r a.turn a.name.now st m.contract sp m.declares _);
+      due_inside = subst (DueInside s) (sym is) (turned-inside s 0 a.r a.turn st m.contract sp m.declares _);
     }

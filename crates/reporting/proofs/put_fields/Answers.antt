@@ -1,4 +1,4 @@
-use Rattle.std.proofs.Common.{refl, [], ◌∷◌, ◌++◌, get_or, drop, ◌+◌}
+use Rattle.std.proofs.Common.{refl, ◌∷◌, ◌++◌, get_or, drop, ◌+◌}
 use Rattle.output.specs.Decimal.{decimal}
 use Rattle.output.proofs.Laws.{fits-first, left-all, left-fits, left-next, left-done}
 use Rattle.reporting.specs.Fields.{number_fields}

@@ -1,5 +1,4 @@
-use Rattle.std.proofs.Common.{[], ◌∷◌, ◌++◌}
-use Rattle.output.specs.Decimal.{decimal}
+use Rattle.std.proofs.Common.{[], ◌∷◌}
 use Rattle.output.proofs.Laws.{fits-first, fits-next, after-both}
 use Rattle.reporting.proofs.Chains.{line-run}
 use Rattle.reporting.proofs.put_line.Goals as goal

@@ -11,4 +11,4 @@ abbrev pub decreases-read_parts : goal.decreases-read_parts
 decreases-read_parts l = suc (2 * deepest l.form l.left)
 
 abbrev pub invariant-read_parts-loop-k : goal.invariant-read_parts-loop-k
-invariant-read_parts-loop-k l = (f : ℕ) → deepest l.form l.left < f → parts_from (node f l.table l.lines l.left) l.form l.k l.next ≡ parts_of (node f l.table l.lines l.left) l.form l.i
+invariant-read_parts-loop-k l = (f : ℕ) → deepest l.form l.left < f → parts_from (node f l.listed.table.now l.listed.lines l.left) l.form l.k l.next ≡ parts_of (node f l.listed.table.now l.listed.lines l.left) l.form l.i

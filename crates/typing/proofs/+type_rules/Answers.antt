@@ -12,17 +12,16 @@ use Rattle.ast.specs.declared.ErrorKind.TheVariants.{InvalidOperation}
 use Rattle.ast.specs.Tree.{from_top}
 use Rattle.listing.specs.declared.Line.{Line}
 use Rattle.reader.specs.Spells.{SpellsExpression, SpellsFactor}
-use Rattle.reader.proofs.Agree.{expression-on}
-use Rattle.listing.specs.Kinds.{part_of}
 use Rattle.nodes.specs.Stands.{walked}
-use Rattle.nodes.proofs.Laws.{expression-is, expression-holds, row-part}
+use Rattle.nodes.proofs.Laws.{expression-is, expression-holds}
 use Rattle.rules.specs.Result.{both, refused}
 use Rattle.rules.specs.Types.{is_string, is_number, is_boolean, not_signature, ascii, factor, unary, string, number, truth, hashed, general}
 use Rattle.operands.specs.Typed.{rule_of, compare_two}
-use Rattle.operands.proofs.Laws.{row_low, operand, operands, left-under, right-under, two-fault, two-pass, turn, leaf, by-operand, by_two}
+use Rattle.operands.proofs.Leaves.{unary_not, unary-other}
+use Rattle.operands.proofs.Laws.{row_low, name-under, operand, operands, left-under, right-under, two-fault, two-pass, then-fault, then-pass, turn, leaf, by-operand, by_two}
 use Rattle.nodes.proofs.Others.{others}
 use Rattle.typing.proofs.Compare.{compare-unknown, compare-sorted}
-use Rattle.typing.proofs.Others.{Refuses, ByGeneral, refused-here, not-strings, string-refuses, not-numbers, number-refuses, not-truths, truth-refuses, no-hashes, hashed-general}
+use Rattle.typing.proofs.Others.{Refuses, ByGeneral, untrue-unary, untrue-math, refused-here, not-strings, string-refuses, not-numbers, number-refuses, not-truths, truth-refuses, no-hashes, hashed-general}
 use Rattle.typing.proofs.+type_rules.Goals as goal
 
 pub check_both-check_operand-requires : goal.check_both-check_operand-requires
@@ -83,9 +82,9 @@ check_type-check_type_boolean-requires t c =
     let a = c.requires in
     (omega (arith, row_low a), operand (SpellsExpression _ _) a (expression-is a.node.spells c.in-UnaryMathExpression.ensures).1)
 
-pub check_type-returns-then-is_not : goal.check_type-returns-then-is_not
+pub check_type-returns-in-Not : goal.check_type-returns-in-Not
 unfolding general unary
-check_type-returns-then-is_not t c e j d sp q = by-operand _ _ _ _ _ d _ q (λ e. general e c.args.context.target (from_top d)) (SpellsExpression _ _) truth (expression-is sp c.in-UnaryMathExpression.ensures) c.check_type_boolean.ensures (λ a. rw (sym c.is_not.ensures ∙ c.if-is_not.true))
+check_type-returns-in-Not t c e j d sp q = by-operand _ _ _ _ _ d _ q (λ e. general e c.args.context.target (from_top d)) (SpellsExpression _ _) truth (expression-is sp c.in-UnaryMathExpression.ensures) c.check_type_boolean.ensures (λ a. rw (unary_not c.in-Not.is))
 
 pub check_type-check_type_numeric-requires : goal.check_type-check_type_numeric-requires
 check_type-check_type_numeric-requires t c =
@@ -97,8 +96,8 @@ check_type-check_type_crypto_operand-requires t c =
     let a = c.requires in
     (omega (arith, row_low a), operand (SpellsExpression _ _) a (expression-is a.node.spells c.in-UnaryCryptoExpression.ensures).1)
 
-pub check_type-check_type_string-operand-requires : goal.check_type-check_type_string-operand-requires
-check_type-check_type_string-operand-requires t c =
+pub check_type-check_type_string-requires : goal.check_type-check_type_string-requires
+check_type-check_type_string-requires t c =
     let a = c.requires in
     (omega (arith, row_low a), operand (SpellsExpression _ _) a (expression-is a.node.spells c.in-ByteExpression.ensures).1)
 
@@ -133,17 +132,24 @@ pub check_type-returns-in-BinaryMathExpression : goal.check_type-returns-in-Bina
 unfolding general rule_of
 check_type-returns-in-BinaryMathExpression t c e j d sp q = by_two _ _ _ _ _ d _ q (λ e. general e c.args.context.target (from_top d)) (λ e g ps. both (rule_of Number e.left g ps) (rule_of Number e.right g ps)) (expression-is sp c.in-BinaryMathExpression.ensures) c.check_both-in-BinaryMathExpression.ensures (λ a b. refl)
 
-pub check_type-returns-else-is_not : goal.check_type-returns-else-is_not
+pub check_type-returns-in_default : goal.check_type-returns-in_default
 unfolding general unary
-check_type-returns-else-is_not t c e j d sp q = by-operand _ _ _ _ _ d _ q (λ e. general e c.args.context.target (from_top d)) (SpellsExpression _ _) number (expression-is sp c.in-UnaryMathExpression.ensures) c.check_type_numeric.ensures (λ a. rw (sym c.is_not.ensures ∙ c.if-is_not.false))
+check_type-returns-in_default t c e j d sp q = by-operand _ _ _ _ _ d _ q (λ e. general e c.args.context.target (from_top d)) (SpellsExpression _ _) number (expression-is sp c.in-UnaryMathExpression.ensures) c.check_type_numeric.ensures (λ a. rw (unary-other _ c.in_default.not-Not))
 
 pub check_type-returns-in-UnaryCryptoExpression : goal.check_type-returns-in-UnaryCryptoExpression
 unfolding general
 check_type-returns-in-UnaryCryptoExpression t c e j d sp q = by-operand _ _ _ _ _ d _ q (λ e. general e c.args.context.target (from_top d)) (SpellsExpression _ _) hashed (expression-is sp c.in-UnaryCryptoExpression.ensures) c.check_type_crypto_operand.ensures (λ a. refl)
 
-pub check_type-returns-in-ByteExpression : goal.check_type-returns-in-ByteExpression
+pub check_type-returns-in_err-n-in-ByteExpression : goal.check_type-returns-in_err-n-in-ByteExpression
 unfolding general
-check_type-returns-in-ByteExpression t c e j d sp q = by-operand _ _ _ _ _ d _ q (λ e. general e c.args.context.target (from_top d)) (SpellsExpression _ _) (λ a g ps. both (string a g ps) (ascii a)) (expression-is sp c.in-ByteExpression.ensures) (λ b k x u v. c.check_ascii.ensures b k (string b c.args.context.target (from_top x)) u (c.check_type_string-operand.ensures b k x u v)) (λ a. refl)
+check_type-returns-in_err-n-in-ByteExpression t c e j d sp q =
+    let p = err_from_is_err_and c.from_residual.result c.from_residual.ensures.1 in
+    let w = c.in_err-n-in-ByteExpression.was in
+    by-operand _ _ _ _ _ d _ q (λ e. general e c.args.context.target (from_top d)) (SpellsExpression _ _) (λ a g ps. both (string a g ps) (ascii a)) (expression-is sp c.in-ByteExpression.ensures) (λ b k x u v. rw (p.1, p.2, ← w) (then-fault (string b c.args.context.target (from_top x)) (ascii b) refl k (c.check_type_string.ensures b k x u v) w)) (λ a. refl)
+
+pub check_type-returns-in_ok-n-in-ByteExpression : goal.check_type-returns-in_ok-n-in-ByteExpression
+unfolding general
+check_type-returns-in_ok-n-in-ByteExpression t c e j d sp q = by-operand _ _ _ _ _ d _ q (λ e. general e c.args.context.target (from_top d)) (SpellsExpression _ _) (λ a g ps. both (string a g ps) (ascii a)) (expression-is sp c.in-ByteExpression.ensures) (λ b k x u v. then-pass (string b c.args.context.target (from_top x)) (ascii b) refl k (c.check_type_string.ensures b k x u v) c.in_ok-n-in-ByteExpression.was (c.check_ascii.ensures b k u)) (λ a. refl)
 
 pub check_type-returns-in-CheckSigExpression : goal.check_type-returns-in-CheckSigExpression
 unfolding general
@@ -156,11 +162,7 @@ pub check_type_boolean-overflow_add-next : goal.check_type_boolean-overflow_add-
 check_type_boolean-overflow_add-next t c = omega (arith, row_low c.requires)
 
 pub check_type_boolean-check_variable_type-requires-clause-stands : goal.check_type_boolean-check_variable_type-requires-clause-stands
-unfolding part_of
-check_type_boolean-check_variable_type-requires-clause-stands t c =
-    let a = c.requires in
-    let n = c.in-Variable.ensures in
-    (a.items, row-part a.node (expression-on _ _ a.node.spells) _ n _ refl)
+check_type_boolean-check_variable_type-requires-clause-stands t c = name-under c.requires c.in-Variable.ensures
 
 pub check_type_boolean-check_both-requires : goal.check_type_boolean-check_both-requires
 check_type_boolean-check_both-requires t c =
@@ -173,9 +175,9 @@ check_type_boolean-check_type_boolean-requires t c =
     let a = c.requires in
     (omega (arith, row_low a), operand (SpellsExpression _ _) a (expression-is a.node.spells c.in-UnaryMathExpression.ensures).1)
 
-pub check_type_boolean-returns-then-is_not : goal.check_type_boolean-returns-then-is_not
+pub check_type_boolean-returns-in-Not : goal.check_type_boolean-returns-in-Not
 unfolding truth unary
-check_type_boolean-returns-then-is_not t c e j d sp q = by-operand _ _ _ _ _ d _ q (λ e. truth e c.args.context.target (from_top d)) (SpellsExpression _ _) truth (expression-is sp c.in-UnaryMathExpression.ensures) c.check_type_boolean.ensures (λ a. rw (sym c.is_not.ensures ∙ c.if-is_not.true))
+check_type_boolean-returns-in-Not t c e j d sp q = by-operand _ _ _ _ _ d _ q (λ e. truth e c.args.context.target (from_top d)) (SpellsExpression _ _) truth (expression-is sp c.in-UnaryMathExpression.ensures) c.check_type_boolean.ensures (λ a. rw (unary_not c.in-Not.is))
 
 pub check_type_boolean-loc_at-requires : goal.check_type_boolean-loc_at-requires
 check_type_boolean-loc_at-requires t c = (expression-holds c.requires.node).room
@@ -205,22 +207,26 @@ check_type_boolean-returns-in-CompareExpression t c e j d sp q =
       | inr (l, h) ↦ turn (λ e. general e g (from_top d)) (λ e. truth e g (from_top d)) j (expression-is sp (c.expression_at.ensures ∙ ap Line.Expression h)).2 refl (c.check_type.ensures e j d sp q)
     ]
 
-pub check_type_boolean-returns-else-is_not : goal.check_type_boolean-returns-else-is_not
-unfolding truth number unary
-check_type_boolean-returns-else-is_not t c e j d sp q = turn (λ e. both (number e c.args.context.target (from_top d)) (refused InvalidOperation c.in-UnaryMathExpression.l)) (λ e. truth e c.args.context.target (from_top d)) j (expression-is sp c.in-UnaryMathExpression.ensures).2 (rw (sym c.is_not.ensures ∙ c.if-is_not.false)) (c.then_refuse.ensures (number e c.args.context.target (from_top d)) j j (c.check_type_numeric.ensures e j d sp q))
+pub check_type_boolean-returns-in_err-check_type_numeric-in_default-op : goal.check_type_boolean-returns-in_err-check_type_numeric-in_default-op
+check_type_boolean-returns-in_err-check_type_numeric-in_default-op t c e j d sp q =
+    let p = err_from_is_err_and c.from_residual.result c.from_residual.ensures.1 in
+    let w = c.in_err-check_type_numeric-in_default-op.was in
+    rw (p.1, p.2, ← w) (then-fault (number e c.args.context.target (from_top d)) (refused InvalidOperation c.in-UnaryMathExpression.l) (untrue-unary _ _ _ sp c.in-UnaryMathExpression.ensures (unary-other _ c.in_default-op.not-Not)) j (c.check_type_numeric.ensures e j d sp q) w)
 
-pub check_type_boolean-returns-in-BinaryMathExpression : goal.check_type_boolean-returns-in-BinaryMathExpression
-unfolding truth number unary
-check_type_boolean-returns-in-BinaryMathExpression t c e j d sp q =
-    let g = c.args.context.target in
-    let k = c.then_refuse-in-BinaryMathExpression.ensures (number e g (from_top d)) j j (c.check_type_numeric-in-BinaryMathExpression.ensures e j d sp q) in
-    elim c.in-BinaryMathExpression.is [
-      | inl (o, h) ↦ turn (λ e. both (number e g (from_top d)) (refused InvalidOperation c.in-BinaryMathExpression.l)) (λ e. truth e g (from_top d)) j (expression-is sp (c.expression_at.ensures ∙ ap Line.Expression h)).5 refl k
-      | inr h ↦ turn (λ e. both (number e g (from_top d)) (refused InvalidOperation c.in-BinaryMathExpression.l)) (λ e. truth e g (from_top d)) j (expression-is sp (c.expression_at.ensures ∙ ap Line.Expression h)).2 refl k
-    ]
+pub check_type_boolean-returns-in_ok-check_type_numeric-in_default-op : goal.check_type_boolean-returns-in_ok-check_type_numeric-in_default-op
+check_type_boolean-returns-in_ok-check_type_numeric-in_default-op t c e j d sp q = then-pass (number e c.args.context.target (from_top d)) (refused InvalidOperation c.in-UnaryMathExpression.l) (untrue-unary _ _ _ sp c.in-UnaryMathExpression.ensures (unary-other _ c.in_default-op.not-Not)) j (c.check_type_numeric.ensures e j d sp q) c.in_ok-check_type_numeric-in_default-op.was (ap Err c.new.ensures)
+
+pub check_type_boolean-returns-in_err-check_type_numeric-in-BinaryMathExpression : goal.check_type_boolean-returns-in_err-check_type_numeric-in-BinaryMathExpression
+check_type_boolean-returns-in_err-check_type_numeric-in-BinaryMathExpression t c e j d sp q =
+    let p = err_from_is_err_and c.from_residual-in_err-check_type_numeric-in-BinaryMathExpression.result c.from_residual-in_err-check_type_numeric-in-BinaryMathExpression.ensures.1 in
+    let w = c.in_err-check_type_numeric-in-BinaryMathExpression.was in
+    rw (p.1, p.2, ← w) (then-fault (number e c.args.context.target (from_top d)) (refused InvalidOperation c.in-BinaryMathExpression.l) (untrue-math _ _ _ sp c.expression_at.ensures c.in-BinaryMathExpression.is) j (c.check_type_numeric-in-BinaryMathExpression.ensures e j d sp q) w)
+
+pub check_type_boolean-returns-in_ok-check_type_numeric-in-BinaryMathExpression : goal.check_type_boolean-returns-in_ok-check_type_numeric-in-BinaryMathExpression
+check_type_boolean-returns-in_ok-check_type_numeric-in-BinaryMathExpression t c e j d sp q = then-pass (number e c.args.context.target (from_top d)) (refused InvalidOperation c.in-BinaryMathExpression.l) (untrue-math _ _ _ sp c.expression_at.ensures c.in-BinaryMathExpression.is) j (c.check_type_numeric-in-BinaryMathExpression.ensures e j d sp q) c.in_ok-check_type_numeric-in-BinaryMathExpression.was (ap Err c.new-in-BinaryMathExpression.ensures)
 
 pub check_type_boolean-returns-in_default : goal.check_type_boolean-returns-in_default
-check_type_boolean-returns-in_default t c e j d sp q = refused-here e j (c.loc_at.ensures _ e j sp) (ap Err c.new.ensures) (others (Refuses truth) not-truths truth-refuses _ (search rules) sp c.expression_at.ensures _ _)
+check_type_boolean-returns-in_default t c e j d sp q = refused-here e j (c.loc_at.ensures _ e j sp) (ap Err c.new-in_default.ensures) (others (Refuses truth) not-truths truth-refuses _ (search rules) sp c.expression_at.ensures _ _)
 
 pub check_type_crypto_operand-expression_at-requires : goal.check_type_crypto_operand-expression_at-requires
 check_type_crypto_operand-expression_at-requires t c = expression-holds c.requires.node
@@ -229,11 +235,7 @@ pub check_type_crypto_operand-overflow_add-next : goal.check_type_crypto_operand
 check_type_crypto_operand-overflow_add-next t c = omega (arith, row_low c.requires)
 
 pub check_type_crypto_operand-check_variable_type-requires-clause-stands : goal.check_type_crypto_operand-check_variable_type-requires-clause-stands
-unfolding part_of
-check_type_crypto_operand-check_variable_type-requires-clause-stands t c =
-    let a = c.requires in
-    let n = c.in-Variable.ensures in
-    (a.items, row-part a.node (expression-on _ _ a.node.spells) _ n _ refl)
+check_type_crypto_operand-check_variable_type-requires-clause-stands t c = name-under c.requires c.in-Variable.ensures
 
 pub check_type_crypto_operand-check_type_crypto_operand-requires : goal.check_type_crypto_operand-check_type_crypto_operand-requires
 check_type_crypto_operand-check_type_crypto_operand-requires t c =
@@ -260,11 +262,7 @@ pub check_type_numeric-overflow_add-next : goal.check_type_numeric-overflow_add-
 check_type_numeric-overflow_add-next t c = omega (arith, row_low c.requires)
 
 pub check_type_numeric-check_variable_type-requires-clause-stands : goal.check_type_numeric-check_variable_type-requires-clause-stands
-unfolding part_of
-check_type_numeric-check_variable_type-requires-clause-stands t c =
-    let a = c.requires in
-    let n = c.in-Variable.ensures in
-    (a.items, row-part a.node (expression-on _ _ a.node.spells) _ n _ refl)
+check_type_numeric-check_variable_type-requires-clause-stands t c = name-under c.requires c.in-Variable.ensures
 
 pub check_type_numeric-check_both-requires : goal.check_type_numeric-check_both-requires
 check_type_numeric-check_both-requires t c =
@@ -272,9 +270,9 @@ check_type_numeric-check_both-requires t c =
     let f = expression-is a.node.spells c.in-BinaryMathExpression.ensures in
     (omega (arith, row_low a), operands a f.3 f.4)
 
-pub check_type_numeric-returns-then-is_not : goal.check_type_numeric-returns-then-is_not
+pub check_type_numeric-returns-in-Not : goal.check_type_numeric-returns-in-Not
 unfolding number unary
-check_type_numeric-returns-then-is_not t c e j d sp q = rw ((expression-is sp c.in-UnaryMathExpression.ensures).2, sym c.is_not.ensures ∙ c.if-is_not.true) (ap Err c.new.ensures)
+check_type_numeric-returns-in-Not t c e j d sp q = rw ((expression-is sp c.in-UnaryMathExpression.ensures).2, unary_not c.in-Not.is) (ap Err c.new.ensures)
 
 pub check_type_numeric-check_type_numeric-requires : goal.check_type_numeric-check_type_numeric-requires
 check_type_numeric-check_type_numeric-requires t c =
@@ -300,9 +298,9 @@ pub check_type_numeric-returns-in-BinaryMathExpression : goal.check_type_numeric
 unfolding number rule_of
 check_type_numeric-returns-in-BinaryMathExpression t c e j d sp q = by_two _ _ _ _ _ d _ q (λ e. number e c.args.context.target (from_top d)) (λ e g ps. both (rule_of Number e.left g ps) (rule_of Number e.right g ps)) (expression-is sp c.in-BinaryMathExpression.ensures) c.check_both.ensures (λ a b. refl)
 
-pub check_type_numeric-returns-else-is_not : goal.check_type_numeric-returns-else-is_not
+pub check_type_numeric-returns-in_default-op : goal.check_type_numeric-returns-in_default-op
 unfolding number unary
-check_type_numeric-returns-else-is_not t c e j d sp q = by-operand _ _ _ _ _ d _ q (λ e. number e c.args.context.target (from_top d)) (SpellsExpression _ _) number (expression-is sp c.in-UnaryMathExpression.ensures) c.check_type_numeric.ensures (λ a. rw (sym c.is_not.ensures ∙ c.if-is_not.false))
+check_type_numeric-returns-in_default-op t c e j d sp q = by-operand _ _ _ _ _ d _ q (λ e. number e c.args.context.target (from_top d)) (SpellsExpression _ _) number (expression-is sp c.in-UnaryMathExpression.ensures) c.check_type_numeric.ensures (λ a. rw (unary-other _ c.in_default-op.not-Not))
 
 pub check_type_numeric-returns-in-ByteExpression : goal.check_type_numeric-returns-in-ByteExpression
 unfolding number general
@@ -318,11 +316,7 @@ pub check_type_string-overflow_add-next : goal.check_type_string-overflow_add-ne
 check_type_string-overflow_add-next t c = omega (arith, row_low c.requires)
 
 pub check_type_string-check_variable_type-requires-clause-stands : goal.check_type_string-check_variable_type-requires-clause-stands
-unfolding part_of
-check_type_string-check_variable_type-requires-clause-stands t c =
-    let a = c.requires in
-    let n = c.in-Variable.ensures in
-    (a.items, row-part a.node (expression-on _ _ a.node.spells) _ n _ refl)
+check_type_string-check_variable_type-requires-clause-stands t c = name-under c.requires c.in-Variable.ensures
 
 pub check_type_string-check_type_crypto_operand-requires : goal.check_type_string-check_type_crypto_operand-requires
 check_type_string-check_type_crypto_operand-requires t c =

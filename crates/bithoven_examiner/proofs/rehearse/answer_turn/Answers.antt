@@ -6,4 +6,4 @@ use Rattle.bithoven_examiner.proofs.rehearse.answer_turn.Goals as goal
 pub returns : goal.returns
 returns c =
     let a = c.args in
-    leaves (λ k. turned a.listing.now k a.r a.turn a.name.now) a.rehearsal.now a.due.now refl c.rehearse-x.ensures.value c.put_rehearsed.ensures
+    leaves (λ k. turned a.listing.now k a.r a.turn) a.rehearsal.now a.due.now refl c.rehearse-x.ensures.value c.put_rehearsed.ensures

@@ -4,4 +4,4 @@ use Rattle.bithoven_examiner.proofs.rehearse.bithoven_rehearse_lay.Goals as goal
 
 pub returns : goal.returns
 unfolding act laid
-returns c = c.answer_turn.ensures
+returns c = rw c.rehearsal_in-r.ensures at c.answer_turn.ensures

@@ -1,26 +1,23 @@
-use Rattle.std.proofs.Common.{◌≡◌, length, sym, ap, ◌∙◌}
-use Rattle.std.specs.Prelude.{Ok, Err, Some, None}
-use Rattle.rules.proofs.Basics.{Ok-injective}
-use Rattle.examiner.proofs.Naming.{part-named, none-named}
+use Rattle.std.proofs.Common.{◌≡◌, length, ap, ◌∙◌}
+use Rattle.std.specs.Prelude.{Ok, Some}
+use Rattle.std.specs.Option.{option_flatten}
+use Rattle.examiner.proofs.Naming.{part-named, none-named, flat-some, flat-none}
+use Rattle.examiner.proofs.name.name.Goals.{In-Some}
 use Rattle.examiner.proofs.name.name.Goals as goal
 
+-- the place there is
+there : (c : In-Some) → c.name_place.result ≡ Ok (Some c.in-Some.x)
+there c = flat-some _ (c.flatten-place.ensures ∙ ap option_flatten c.ok.ensures.value) c.in-Some.is
+
 pub of-requires : goal.of-requires
-of-requires c = (c.name_place.ensures.inside _ (c.in-Ok-Some.is ∙ ap Ok c.in-Ok-Some.field-0-is)).0
+of-requires c = (c.name_place.ensures.inside _ (there (goal.at.of-requires c).In-Some)).0
 
-pub returns-in-Ok-Some : goal.returns-in-Ok-Some
-returns-in-Ok-Some c =
+pub returns-in-Some-clause-result_value : goal.returns-in-Some-clause-result_value
+returns-in-Some-clause-result_value c =
     let a = c.args in
-    let x = c.name_place.ensures in
-    record { result_value = part-named a.listing.now (length a.work.now) a.path a.position x.value _ (c.in-Ok-Some.is ∙ ap Ok c.in-Ok-Some.field-0-is) c.of.ensures; work_after = x.work_after }
+    part-named a.listing.now (length a.work.now) a.path a.position c.name_place.ensures.value _ (there (goal.at.returns-in-Some-clause-result_value c).In-Some) c.of.ensures
 
-pub returns-in-Ok-None : goal.returns-in-Ok-None
-returns-in-Ok-None c =
+pub returns-in-None-clause-result_value : goal.returns-in-None-clause-result_value
+returns-in-None-clause-result_value c =
     let a = c.args in
-    let x = c.name_place.ensures in
-    record { result_value = none-named a.listing.now (length a.work.now) a.path a.position x.value (λ p e. let z : Ok c.in-Ok-None.field-0 ≡ Ok (Some p) = sym c.in-Ok-None.is ∙ e in let y : None ≡ Some p = sym c.in-Ok-None.field-0-is ∙ Ok-injective z in cc); work_after = x.work_after }
-
-pub returns-in-Err : goal.returns-in-Err
-returns-in-Err c =
-    let a = c.args in
-    let x = c.name_place.ensures in
-    record { result_value = none-named a.listing.now (length a.work.now) a.path a.position x.value (λ p e. let z : Err c.in-Err.field-0 ≡ Ok (Some p) = sym c.in-Err.is ∙ e in cc); work_after = x.work_after }
+    none-named a.listing.now (length a.work.now) a.path a.position c.name_place.ensures.value (flat-none (c.flatten-place.ensures ∙ ap option_flatten c.ok.ensures.value) c.in-None.is)

@@ -6,11 +6,14 @@ use Rattle.verdicts.specs.Reports.{reported, written}
 use Rattle.examiner.proofs.Reporting.{found-fault, found-analysis, block-rows}
 use Rattle.examiner.proofs.report.report_table.Goals as goal
 
-pub report_acceptance-requires : goal.report_acceptance-requires
-report_acceptance-requires c =
+pub invariant_of-analyzed : goal.invariant_of-analyzed
+invariant_of-analyzed c =
     let C = c.requires.stands in
+    let ready = (c.analyze.ensures C.contract C.spells).ready _ c.in-Ok.is in
     record {
-      paths = (c.analyze.ensures C.contract C.spells).ready _ c.in-Ok.is;
+      few = ready.few;
+      full = ready.full;
+      formed = λ p h. (ready.each p h).formed;
       short = C.rows.short;
       block = block-rows C (c.requires.declared C.contract C.spells);
     }

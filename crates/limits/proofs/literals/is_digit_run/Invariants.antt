@@ -1,7 +1,8 @@
-use Rattle.std.proofs.Common.{◌≡◌, ◌↔◌, true}
-use Rattle.text.proofs.Every.{Every}
-use Rattle.limits.proofs.Digits.{Pair}
+use Rattle.std.proofs.Common.{◌≡◌, ◌&&◌, ◌%◌, length}
+use Rattle.limits.proofs.Digits.{Spells}
 use Rattle.limits.proofs.literals.is_digit_run.Given as goal
 
-abbrev pub invariant-loop-k : goal.invariant-loop-k
-invariant-loop-k l = (l.ok ≡ true) ↔ Every (Pair l.run) l.k
+abbrev pub invariant-loop-p : goal.invariant-loop-p
+invariant-loop-p l =
+    let rest = l.p-iterator.rest.now in
+    record { two : l.p-iterator.size ≡ 2; even : length rest % 2 ≡ 0; same : (l.ok && Spells rest) ≡ Spells l.run }

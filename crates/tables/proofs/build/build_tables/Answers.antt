@@ -1,5 +1,4 @@
-use Rattle.std.proofs.Common.{arith, ◌∙◌, sym, ap}
-use Rattle.std.proofs.lemmas.Result.{err_from_is_err_and}
+use Rattle.std.proofs.Common.{arith}
 use Rattle.tables.proofs.Building.{building-none, building-err, building-more, building-all, answered-err}
 use Rattle.tables.proofs.build.build_tables.Goals as goal
 

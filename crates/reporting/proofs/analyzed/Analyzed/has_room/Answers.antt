@@ -1,37 +1,28 @@
-use Rattle.std.proofs.Common.{ap, arith, length}
+use Rattle.std.proofs.Common.{◌≡◌, ◌+◌, ◌≤◌, sym, ap, arith, length, length-append}
 use Rattle.std.specs.Prelude.{leb}
+use Rattle.std.proofs.lemmas.Bool.{le-leb}
 use Rattle.reporting.specs.Analyzed.{analysis_of}
+use Rattle.reporting.specs.Bounds.{acceptance_bound}
+use Rattle.reporting.specs.Text.{wait_lines, acceptance}
 use Rattle.reporting.proofs.Chains.{acceptance-run}
 use Rattle.reporting.proofs.Lengths.{acceptance-short}
-use Rattle.reporting.proofs.Counted.{counted-short, surely-fits, counted-whole}
-use Rattle.reporting.proofs.Loops.{tables-length}
 use Rattle.reporting.proofs.WaitLines.{rows_short}
 use Rattle.reporting.proofs.analyzed.Analyzed.has_room.Goals as goal
+use Rattle.reporting.proofs.analyzed.Analyzed.has_room.Goals.{After-put_paths}
+
+-- all but the waits is counted, and an acceptance is short
+paths-counted : (c : After-put_paths) → (length (acceptance (analysis_of c.args.self.now)) ≡ c.put_paths.new.sink.length + length (wait_lines (analysis_of c.args.self.now).waits)) × (length (acceptance (analysis_of c.args.self.now)) ≤ acceptance_bound)
+paths-counted c =
+    let short = acceptance-short c.args.self.now c.put_paths.ensures.short in
+    (omega (arith, short, simp length-append at (ap length (acceptance-run c.args.self.now)), ap (λ s. s.length) c.put_line.ensures, ap (λ s. s.length) c.put_paths.ensures.text), short)
 
 pub overflow_add-counter : goal.overflow_add-counter
-overflow_add-counter c =
-    let a = c.args.self.now in
-    let few = c.requires.paths.few in
-    let full = tables-length a.rows.listing.now a.rows.table.now a.declared a.paths.now c.requires.paths in
-    let run = acceptance-run (analysis_of a) full in
-    let short = acceptance-short (analysis_of a) (omega arith) c.put_paths.ensures.short (rows_short a.rows.table.now c.requires.block) in
-    omega (arith, counted-short _ _ _ run short c.put_line.ensures c.put_paths.ensures.text)
+overflow_add-counter c = omega (arith, paths-counted (goal.at.overflow_add-counter c).After-put_paths)
 
 pub returns-then-counter-output : goal.returns-then-counter-output
 returns-then-counter-output c =
-    let a = c.args.self.now in
-    let few = c.requires.paths.few in
-    let full = tables-length a.rows.listing.now a.rows.table.now a.declared a.paths.now c.requires.paths in
-    let run = acceptance-run (analysis_of a) full in
-    let waits = rows_short a.rows.table.now c.requires.block in
-    let short = acceptance-short (analysis_of a) (omega arith) c.put_paths.ensures.short waits in
-    surely-fits _ _ _ run short c.put_line.ensures c.put_paths.ensures.text _ waits c.if-counter-output.true
+    sym (le-leb _ _ (omega (arith, paths-counted (goal.at.returns-then-counter-output c).After-put_paths, rows_short c.args.self.now.rows.table.now c.args.self.now.block)))
 
 pub returns : goal.returns
 returns c =
-    let a = c.args.self.now in
-    let few = c.requires.paths.few in
-    let full = tables-length a.rows.listing.now a.rows.table.now a.declared a.paths.now c.requires.paths in
-    let run = acceptance-run (analysis_of a) full in
-    let short = acceptance-short (analysis_of a) (omega arith) c.put_paths.ensures.short (rows_short a.rows.table.now c.requires.block) in
-    ap (λ n. leb n (length c.args.output.now)) (counted-whole _ _ _ run short c.put_line.ensures c.put_paths.ensures.text c.put_waits.ensures)
+    ap (λ n. leb n (length c.args.output.now)) (omega (arith, paths-counted (goal.at.returns c).After-put_paths, ap (λ s. s.length) c.put_waits.ensures))

@@ -1,5 +1,4 @@
-use Rattle.std.proofs.Common.{◌*◌, ◌≤◌, length}
-use Rattle.reader.specs.Ceilings.{max_bytes}
+use Rattle.std.proofs.Common.{◌*◌}
 use Rattle.paths.specs.Path.{table_of}
 use Rattle.output.proofs.Laws.{Left}
 use Rattle.reporting.specs.Bounds.{item_bound}
@@ -10,5 +9,5 @@ use Rattle.reporting.proofs.analyzed.Analyzed.put_items.Given as goal
 
 abbrev pub invariant-loop-k : goal.invariant-loop-k
 invariant-loop-k g l =
-    (Left g.S.Sink.after g.S.Sink.fits l.fn.sink (item_lines 0 (table_of l.self.rows.listing.now l.self.rows.table.now l.path)) l.sink (items_left l.self.rows.listing.now l.self.rows.table.now l.path.places l.taken l.path.count l.k))
-    × (length l.self.rows.listing.now ≤ max_bytes → Spent (item_lines 0 (table_of l.self.rows.listing.now l.self.rows.table.now l.path)) (l.k * item_bound) (items_left l.self.rows.listing.now l.self.rows.table.now l.path.places l.taken l.path.count l.k))
+    (Left g.S.Sink.after g.S.Sink.fits l.fn.sink (item_lines 0 (table_of l.self.rows.listing.now l.self.rows.table.now l.path)) l.sink (items_left l.self.rows.listing.now l.self.rows.table.now l.path l.k))
+    × (Spent (item_lines 0 (table_of l.self.rows.listing.now l.self.rows.table.now l.path)) (l.k * item_bound) (items_left l.self.rows.listing.now l.self.rows.table.now l.path l.k))
