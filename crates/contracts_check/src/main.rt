@@ -6,8 +6,8 @@
 use anyhow::{Context, Result};
 use examiner::name::name;
 use records::{
-    LONGEST_LISTING, OUTPUT_BYTES, ReadError, Tally, print_cut_short, read_bytes, read_end,
-    read_head, read_record,
+    LONGEST_LISTING, MOST_RECORDS, OUTPUT_BYTES, ReadError, Tally, print_cut_short, read_bytes,
+    read_end, read_head, read_record,
 };
 use rows::WORK_WORDS;
 use std::fs::File;
@@ -21,12 +21,11 @@ const ASKED: u32 = 33;
 const LONGEST_NAME: usize = 4096;
 
 // The report of a listing. Is it accepted?
-fn print_report(rt: &(impl Print + AllocGlobal), listing: &[u8]) -> io::Result<bool> {
+fn print_report(rt: &impl Print, listing: &[u8]) -> io::Result<bool> {
     let mut work = [0u32; WORK_WORDS];
-    let mut output = vec![in rt.alloc(); 0; OUTPUT_BYTES]?;
+    let mut output = [0u8; OUTPUT_BYTES];
     let reported = examiner::report::report(listing, &mut work, &mut output);
-    output.truncate(reported.length);
-    rt.write_all(&output)?;
+    rt.write_all(&output[..reported.length])?;
     Ok(reported.answer.is_ok())
 }
 
@@ -46,18 +45,19 @@ fn print_path(rt: &impl Print, listing: &[u8], path: u32) -> io::Result<()> {
 }
 
 // The record of a file's name, as a line; false at the end of the input.
-fn print_file(rt: &(impl Print + AllocGlobal), input: &mut impl Read) -> Result<bool, ReadError> {
+fn print_file(rt: &impl Print, input: &mut impl Read) -> Result<bool, ReadError> {
     let Some(size) = read_head(input, b'\n')? else {
         return Ok(false);
     };
-    let file = read_bytes(input, rt.alloc(), size, LONGEST_NAME)?;
-    rt.write_all(&file)?;
+    let mut file = [0u8; LONGEST_NAME];
+    read_bytes(input, &mut file, size)?;
+    rt.write_all(&file[..size])?;
     println!(rt;)?;
     read_end(input)?;
     Ok(true)
 }
 
-fn examine(rt: &(impl Print + AllocGlobal), listing: &[u8], tally: &mut Tally) -> io::Result<()> {
+fn examine(rt: &impl Print, listing: &[u8], tally: &mut Tally) -> io::Result<()> {
     let is_accepted = print_report(rt, listing)?;
     for path in 0..ASKED {
         print_path(rt, listing, path)?;
@@ -67,17 +67,14 @@ fn examine(rt: &(impl Print + AllocGlobal), listing: &[u8], tally: &mut Tally) -
 }
 
 // All samples, each a name and its listing.
-fn examine_all(
-    rt: &(impl Print + AllocGlobal),
-    input: &mut impl Read,
-    tally: &mut Tally,
-) -> Result<(), ReadError> {
-    for _ in 0..u64::MAX {
+fn examine_all(rt: &impl Print, input: &mut impl Read, tally: &mut Tally) -> Result<(), ReadError> {
+    let mut listing = [0u8; LONGEST_LISTING];
+    for _ in 0..MOST_RECORDS {
         if !print_file(rt, input)? {
             break;
         }
-        let listing = read_record(input, rt.alloc(), LONGEST_LISTING)?.ok_or(ReadError::CutShort)?;
-        examine(rt, &listing, tally)?;
+        let size = read_record(input, &mut listing)?.ok_or(ReadError::CutShort)?;
+        examine(rt, &listing[..size], tally)?;
     }
     Ok(())
 }

@@ -6,8 +6,8 @@ use anyhow::{Context, Result};
 use ast::CompileError;
 use reading::read_listing;
 use records::{
-    FILLED, LENT, ReadError, Refusal, decimal, not_cleared, read_full, read_head, read_up_to,
-    touched, touched_past,
+    FILLED, LENT, MOST_RECORDS, ReadError, Refusal, decimal, not_cleared, read_full, read_head,
+    read_up_to, touched, touched_past,
 };
 use rows::WORK_WORDS;
 use std::fs::File;
@@ -166,33 +166,32 @@ fn examine_short(rt: &impl Print, listing: &[u8], tally: &mut Tally) -> io::Resu
     Ok(())
 }
 
-// One record; false at the end of the input. What is left of a record that is cut short is read too.
+// One record, its listing in a lent buffer; false at the end of the input. What is left of a record that is cut short is read too.
 fn examine_record(
-    rt: &(impl Print + AllocGlobal),
+    rt: &impl Print,
     input: &mut impl Read,
+    buffer: &mut [u8],
     tally: &mut Tally,
 ) -> Result<bool, ReadError> {
     let Some(size) = read_head(input, b',')? else {
         return Ok(false);
     };
     let due = read_due(input)?;
-    let listing = read_up_to(input, rt.alloc(), size, LONGEST)?;
+    let n = read_up_to(input, buffer, size)?;
     read_full(input, &mut [0u8; 1])?;
+    let listing = &buffer[..n];
     if tally.listings < READ_TWICE {
-        examine_short(rt, &listing, tally)?;
+        examine_short(rt, listing, tally)?;
     }
-    examine(rt, &listing, due, tally)?;
+    examine(rt, listing, due, tally)?;
     tally.listings = tally.listings.saturating_add(1);
     Ok(true)
 }
 
-fn examine_all(
-    rt: &(impl Print + AllocGlobal),
-    input: &mut impl Read,
-    tally: &mut Tally,
-) -> Result<(), ReadError> {
-    for _ in 0..u64::MAX {
-        if !examine_record(rt, input, tally)? {
+fn examine_all(rt: &impl Print, input: &mut impl Read, tally: &mut Tally) -> Result<(), ReadError> {
+    let mut buffer = [0u8; LONGEST];
+    for _ in 0..MOST_RECORDS {
+        if !examine_record(rt, input, &mut buffer, tally)? {
             break;
         }
     }

@@ -2,19 +2,16 @@
 // in five digits, the bytes, and byte 10.
 #![tactic(auto)]
 
-ghost use Rattle.std.specs.Prelude.{◌≡◌, ◌+◌, ◌-◌, ◌^◌, min, if◌then◌else◌, IsOk, IsErrOf, ◌<◌, ◌≤◌, [], ◌∷◌, IfOk, IfSome, OnOk, MatchOption, length, take, drop, vec_len};
+ghost use Rattle.std.specs.Prelude.{◌≡◌, ◌+◌, ◌-◌, ◌^◌, min, if◌then◌else◌, IsOk, IsErrOf, ◌<◌, ◌≤◌, [], ◌∷◌, IfOk, IfSome, OnOk, MatchOption, length, take, drop};
 ghost use Rattle.std.specs.Io.{ReadsAtMost};
 ghost use Rattle.std.specs.Io.KnownBytes.{Consumes, IsAtEnd};
 ghost use Rattle.records.specs.Bytes.{number_in, ReadsHead, ReadsRecord, BeginsWithHead, BeginsWithEnd, BeginsWithRecord};
 ghost use Rattle.ast.specs.Tree.{number};
-ghost use Rattle.std.specs.Iterator.{at_most};
-ghost use Rattle.records.specs.declared.ReadError.TheVariants.{CutShort, Io};
-ghost use Rattle.records.specs.Records.{records_input, records_left, records_longest};
+ghost use Rattle.records.specs.declared.ReadError.TheVariants.{Io};
 ghost use Rattle.records.specs.Wrong.{wrong_in};
 
 use ast::CompileError;
 use rows::WORK_WORDS;
-use std::alloc::Global;
 use std::error::Error;
 use std::io::Read;
 use std::{fmt, io};
@@ -30,6 +27,9 @@ pub const LENT: usize = WORK_WORDS + 16;
 
 // No listing of a record is longer.
 pub const LONGEST_LISTING: usize = 32768;
+
+// How many records with a listing are read of an input at most: nothing says that it ends.
+pub const MOST_RECORDS: usize = 100_000;
 
 // The room for a report.
 pub const OUTPUT_BYTES: usize = 65536;
@@ -90,45 +90,32 @@ pub fn read_full<R: Read>(reader: &mut R, buffer: &mut [u8]) -> io::Result<usize
     Ok(done)
 }
 
-// The next `size` bytes, or fewer where the input ends among them; none, and nothing is read, where `size` is over `longest`.
-pub fn read_up_to<R: Read>(
-    reader: &mut R,
-    alloc: Global,
-    size: usize,
-    longest: usize,
-) -> io::Result<Vec<u8>>
-    ensures bound { IfOk result (λ bytes. (vec_len bytes ≤ size) × (vec_len bytes ≤ longest)) }
-    ensures bytes { IfOk result (λ bytes. Consumes (R.remaining reader.old) (R.remaining reader.new) bytes.items) }
-    ensures end { IfOk result (λ bytes. size ≤ longest → vec_len bytes < size → IsAtEnd (R.remaining reader.new)) }
+// The next `size` bytes at the buffer's start, or fewer where the input ends among them; none, and nothing is read, where the buffer
+// is too small.
+pub fn read_up_to<R: Read>(reader: &mut R, buffer: &mut [u8], size: usize) -> io::Result<usize>
+    ensures bound { ReadsAtMost result buffer.new }
+    ensures size { IfOk result (λ n. n ≤ size) }
+    ensures length { length buffer.new ≡ length buffer.old }
+    ensures bytes { IfOk result (λ n. Consumes (R.remaining reader.old) (R.remaining reader.new) (take n buffer.new)) }
+    ensures end { IfOk result (λ n. size ≤ length buffer.old → n < size → IsAtEnd (R.remaining reader.new)) }
 {
-    if size > longest {
-        return Ok(Vec::new(alloc));
+    if size > buffer.len() {
+        return Ok(0);
     }
-    let mut bytes = vec![in alloc; 0; size]?;
-    let n = read_full(reader, &mut bytes)?;
-    bytes.truncate(n);
-    Ok(bytes)
+    read_full(reader, &mut buffer[..size])
 }
 
-// The next `size` bytes, at most `longest`.
-pub fn read_bytes<R: Read>(
-    reader: &mut R,
-    alloc: Global,
-    size: usize,
-    longest: usize,
-) -> Result<Vec<u8>, ReadError>
-    ensures size { IfOk result (λ bytes. (vec_len bytes ≡ size) × (size ≤ longest)) }
-    ensures bytes { IfOk result (λ bytes. Consumes (R.remaining reader.old) (R.remaining reader.new) bytes.items) }
-    ensures cut_short { IsErrOf result ReadError.CutShort → size ≤ longest → IfSome (R.remaining reader.old) (λ xs. length xs < size) }
+// The next `size` bytes at the buffer's start.
+pub fn read_bytes<R: Read>(reader: &mut R, buffer: &mut [u8], size: usize) -> Result<(), ReadError>
+    ensures size { OnOk result (size ≤ length buffer.new) }
+    ensures length { length buffer.new ≡ length buffer.old }
+    ensures bytes { OnOk result (Consumes (R.remaining reader.old) (R.remaining reader.new) (take size buffer.new)) }
+    ensures cut_short { IsErrOf result ReadError.CutShort → size ≤ length buffer.old → IfSome (R.remaining reader.old) (λ xs. length xs < size) }
 {
-    if size > longest {
+    if read_up_to(reader, buffer, size)? < size {
         return Err(ReadError::CutShort);
     }
-    let bytes = read_up_to(reader, alloc, size, longest)?;
-    if bytes.len() < size {
-        return Err(ReadError::CutShort);
-    }
-    Ok(bytes)
+    Ok(())
 }
 
 // The next head's five digits, and the byte that must stand after them; none at the input's end.
@@ -157,68 +144,20 @@ pub fn read_end<R: Read>(reader: &mut R) -> Result<(), ReadError>
     }
 }
 
-// The next record's bytes, at most `longest`; none at the input's end.
-pub fn read_record<R: Read>(
-    reader: &mut R,
-    alloc: Global,
-    longest: usize,
-) -> Result<Option<Vec<u8>>, ReadError>
+// The next record's bytes at the buffer's start, and how many they are; none at the input's end. A record of more bytes than the
+// buffer has is taken for one that is cut short.
+pub fn read_record<R: Read>(reader: &mut R, buffer: &mut [u8]) -> Result<Option<usize>, ReadError>
     ensures ok { IfOk result (λ found. MatchOption found (IsAtEnd (R.remaining reader.old))
-        (λ bytes. ReadsRecord (R.remaining reader.old) (R.remaining reader.new) bytes.items)) }
-    ensures longest { IfOk result (λ found. IfSome found (λ bytes. vec_len bytes ≤ longest)) }
-    ensures cut_short { IsErrOf result ReadError.CutShort → IfSome (R.remaining reader.old) (λ xs. ¬ BeginsWithRecord longest xs) }
+        (λ size. (size ≤ length buffer.new) × ReadsRecord (R.remaining reader.old) (R.remaining reader.new) (take size buffer.new))) }
+    ensures length { length buffer.new ≡ length buffer.old }
+    ensures cut_short { IsErrOf result ReadError.CutShort → IfSome (R.remaining reader.old) (λ xs. ¬ BeginsWithRecord (length buffer.old) xs) }
 {
     let Some(size) = read_head(reader, b'\n')? else {
         return Ok(None);
     };
-    let bytes = read_bytes(reader, alloc, size, longest)?;
+    read_bytes(reader, buffer, size)?;
     read_end(reader)?;
-    Ok(Some(bytes))
-}
-
-// The records of an input, one after another.
-#[derive(Drop)]
-pub struct Records<R> {
-    input: R,
-    alloc: Global,
-    longest: usize,
-    turns: u64,
-}
-
-impl<R> Records<R> {
-    // None is to have more bytes than `longest`. Nothing says that an input ends, so the records are counted down.
-    pub fn new(alloc: Global, input: R, longest: usize) -> Records<R>
-        ensures input { records_input result ≡ input }
-        ensures longest { records_longest result ≡ longest }
-        ensures left { records_left result ≡ 2 ^ 64 - 1 }
-    {
-        Records {
-            input,
-            alloc,
-            longest,
-            turns: u64::MAX,
-        }
-    }
-}
-
-impl<R: Read> Iterator for Records<R>
-where
-    R: Drop,
-{
-    type Item = Result<Vec<u8>, ReadError>;
-
-    ghost next_gives = { λ s r t. (records_longest t ≡ records_longest s)
-        × MatchOption r (0 < records_left s → IsAtEnd (R.remaining (records_input s))) (λ item.
-        IfOk item (λ bytes. ReadsRecord (R.remaining (records_input s)) (R.remaining (records_input t)) bytes.items)
-        × (IsErrOf item CutShort
-        → IfSome (R.remaining (records_input s)) (λ xs. ¬ BeginsWithRecord (records_longest s) xs))) };
-
-    ghost remaining = { λ s. at_most (records_left s) };
-
-    fn next(&mut self) -> Option<Result<Vec<u8>, ReadError>> {
-        self.turns = self.turns.checked_sub(1)?;
-        read_record(&mut self.input, self.alloc, self.longest).transpose()
-    }
+    Ok(Some(size))
 }
 
 // Prints the index of a record that is cut short, if that is why reading came to an end.

@@ -9,7 +9,7 @@
 // asks this program, and the gate runs it on stdin, which tools/rehearsal_vectors.py writes.
 #![tactic(auto)]
 
-use records::{FILLED, LENT, ReadError, Records, Refusal, wrong_words};
+use records::{FILLED, LENT, ReadError, Refusal, read_bytes, read_end, read_head, wrong_words};
 use std::io::Read;
 use std::{fmt, io};
 use text::{COMMA, Cursor};
@@ -18,6 +18,11 @@ use words::read_word;
 
 // No record is longer: a byte that says what it is, and 65536 more.
 const LONGEST: usize = 65537;
+
+// How many calls on a listing are answered at most, and on how many listings: nothing says that the input ends.
+const MOST_CALLS: usize = 1_000_000;
+
+const MOST_LISTINGS: usize = 100_000;
 
 // What is asked of a rehearsal.
 #[derive(Clone, Copy)]
@@ -126,29 +131,48 @@ fn answer_call(
     Ok(())
 }
 
-// All calls, each on the listing last read. Those before the first are made on a listing of no bytes.
-fn answer_all<R: Read + Drop>(
-    rt: &(impl Print + AllocGlobal),
-    records: Records<R>,
+// The calls on a listing. How many bytes of another listing follow, if one does.
+fn answer_calls(
+    rt: &impl Print,
+    input: &mut impl Read,
+    listing: &[u8],
     tally: &mut Tally,
-) -> Result<(), ReadError> {
-    let mut listing = Vec::new(rt.alloc());
-    for record in records {
-        let mut record = record?;
-        if record.first() == Some(&b't') {
-            record.remove(0);
-            listing = record;
-        } else {
-            answer_call(rt, &listing, &record, tally)?;
+) -> Result<Option<usize>, ReadError> {
+    let mut record = [0u8; LONGEST];
+    for _ in 0..MOST_CALLS {
+        let Some(size) = read_head(input, b'\n')? else {
+            break;
+        };
+        let first = size.min(1);
+        read_bytes(input, &mut record, first)?;
+        if record[..first].starts_with(b"t") {
+            return Ok(Some(size - first));
         }
+        read_bytes(input, &mut record[first..], size - first)?;
+        read_end(input)?;
+        answer_call(rt, listing, &record[..size], tally)?;
+    }
+    Ok(None)
+}
+
+// All calls, each on the listing last read. Those before the first are made on a listing of no bytes.
+fn answer_all(rt: &impl Print, input: &mut impl Read, tally: &mut Tally) -> Result<(), ReadError> {
+    let mut listing = [0u8; LONGEST - 1];
+    let mut following = answer_calls(rt, input, b"", tally)?;
+    for _ in 0..MOST_LISTINGS {
+        let Some(size) = following else {
+            break;
+        };
+        read_bytes(input, &mut listing, size)?;
+        read_end(input)?;
+        following = answer_calls(rt, input, &listing[..size], tally)?;
     }
     Ok(())
 }
 
 fn main(rt: HostRuntime) -> io::Result<()> {
     let mut tally = Tally::default();
-    let records = Records::new(rt.alloc(), rt.stdin(), LONGEST);
-    match answer_all(&rt, records, &mut tally) {
+    match answer_all(&rt, &mut rt.stdin(), &mut tally) {
         Ok(()) => {}
         Err(ReadError::CutShort) => {
             println!(rt; "{} calls, then a record that is cut short", tally.calls)?;

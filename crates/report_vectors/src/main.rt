@@ -4,23 +4,22 @@
 #![tactic(auto)]
 
 use records::{
-    FILLED, LENT, LONGEST_LISTING, OUTPUT_BYTES, ReadError, Records, Refusal, Tally,
-    print_cut_short, wrong_words,
+    FILLED, LENT, LONGEST_LISTING, MOST_RECORDS, OUTPUT_BYTES, ReadError, Refusal, Tally,
+    print_cut_short, read_record, wrong_words,
 };
 use std::io;
 use std::io::Read;
 
 // The report of a listing; how many words of work are wrong after it.
-fn print_report(rt: &(impl Print + AllocGlobal), listing: &[u8]) -> io::Result<usize> {
+fn print_report(rt: &impl Print, listing: &[u8]) -> io::Result<usize> {
     let mut work = [FILLED; LENT];
-    let mut output = vec![in rt.alloc(); 0; OUTPUT_BYTES]?;
+    let mut output = [0u8; OUTPUT_BYTES];
     let length = examiner::report::report(listing, &mut work, &mut output).length;
-    output.truncate(length);
-    rt.write_all(&output)?;
+    rt.write_all(&output[..length])?;
     Ok(wrong_words(&work))
 }
 
-fn examine(rt: &(impl Print + AllocGlobal), listing: &[u8], tally: &mut Tally) -> io::Result<()> {
+fn examine(rt: &impl Print, listing: &[u8], tally: &mut Tally) -> io::Result<()> {
     let mut work = [FILLED; LENT];
     let refusal = examiner::check(listing, &mut work).err().map(Refusal);
     let number = refusal.map_or(0, Refusal::number);
@@ -30,21 +29,20 @@ fn examine(rt: &(impl Print + AllocGlobal), listing: &[u8], tally: &mut Tally) -
     Ok(())
 }
 
-fn examine_all<R: Read + Drop>(
-    rt: &(impl Print + AllocGlobal),
-    listings: Records<R>,
-    tally: &mut Tally,
-) -> Result<(), ReadError> {
-    for listing in listings {
-        examine(rt, &listing?, tally)?;
+fn examine_all(rt: &impl Print, input: &mut impl Read, tally: &mut Tally) -> Result<(), ReadError> {
+    let mut listing = [0u8; LONGEST_LISTING];
+    for _ in 0..MOST_RECORDS {
+        let Some(size) = read_record(input, &mut listing)? else {
+            break;
+        };
+        examine(rt, &listing[..size], tally)?;
     }
     Ok(())
 }
 
 fn main(rt: HostRuntime) -> io::Result<()> {
-    let listings = Records::new(rt.alloc(), rt.stdin(), LONGEST_LISTING);
     let mut tally = Tally::default();
-    let read = examine_all(&rt, listings, &mut tally);
+    let read = examine_all(&rt, &mut rt.stdin(), &mut tally);
     print_cut_short(&rt, tally.listings, read)?;
     println!(rt; "{tally}")
 }

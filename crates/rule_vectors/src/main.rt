@@ -4,7 +4,8 @@
 
 use anyhow::{Context, Result};
 use records::{
-    FILLED, LENT, LONGEST_LISTING, ReadError, Records, Refusal, Tally, print_cut_short, wrong_words,
+    FILLED, LENT, LONGEST_LISTING, MOST_RECORDS, ReadError, Refusal, Tally, print_cut_short,
+    read_record, wrong_words,
 };
 use std::fs::File;
 use std::io::Read;
@@ -34,25 +35,21 @@ fn examine(rt: &impl Print, listing: &[u8], tally: &mut Tally) -> io::Result<()>
     Ok(())
 }
 
-fn examine_all<R: Read + Drop>(
-    rt: &impl Print,
-    listings: Records<R>,
-    tally: &mut Tally,
-) -> Result<(), ReadError> {
-    for listing in listings {
-        examine(rt, &listing?, tally)?;
+fn examine_all(rt: &impl Print, input: &mut impl Read, tally: &mut Tally) -> Result<(), ReadError> {
+    let mut listing = [0u8; LONGEST_LISTING];
+    for _ in 0..MOST_RECORDS {
+        let Some(size) = read_record(input, &mut listing)? else {
+            break;
+        };
+        examine(rt, &listing[..size], tally)?;
     }
     Ok(())
 }
 
 fn main(rt: HostRuntime) -> Result<()> {
-    let file = File::open(&rt, "listings").context("listings")?;
+    let mut file = File::open(&rt, "listings").context("listings")?;
     let mut tally = Tally::default();
-    let read = examine_all(
-        &rt,
-        Records::new(rt.alloc(), file, LONGEST_LISTING),
-        &mut tally,
-    );
+    let read = examine_all(&rt, &mut file, &mut tally);
     print_cut_short(&rt, tally.listings, read)?;
     println!(rt; "{tally}")?;
     Ok(())
