@@ -5,18 +5,18 @@
 ghost use Rattle.std.specs.Prelude.{◌≡◌};
 ghost use Rattle.std.specs.Fn.{FnOnceReturnsAtMut};
 ghost use Rattle.std.specs.Result.{result_unwrap_or};
-ghost use Rattle.lent_path.specs.Lent.{answered};
+ghost use Rattle.lent_path.specs.Lent.{answered, Kept, take_at, transfer_at};
 
 use ast::CompileError;
 use lent_path::{Answered, bithoven_take, bithoven_transfer, take_at, transfer_at};
 use paths::{NamePlace, Path};
 use reading::read_listing;
+use records::read_full;
 use rows::{Rows, WORK_WORDS};
 use std::io;
-use std::io::Read;
 
 // The most that is read of a listing.
-const MOST_READ: u64 = 65536;
+const MOST_READ: usize = 65536;
 
 // A path that was lent at each step, and the same by value.
 #[derive(Clone, Copy)]
@@ -41,6 +41,24 @@ impl Left {
         let mut path = path;
         let answered = call(&mut path);
         Left { path, answered }
+    }
+
+    // A take from a path of its own, which it lends.
+    fn taken(rows: &Rows<'_>, i: usize, path: Path) -> Left
+        ensures { Kept rows.now.listing.now rows.now.table.now path (take_at rows.now.listing.now rows.now.table.now i path) result.answered result.path }
+    {
+        Left::lent(path, |path| {
+            bithoven_take(path, rows.listing, rows.table, i)
+        })
+    }
+
+    // A transfer into a path of its own, which it lends.
+    fn transferred(rows: &Rows<'_>, i: usize, from: Path, path: Path) -> Left
+        ensures { Kept rows.now.listing.now rows.now.table.now path (transfer_at rows.now.listing.now rows.now.table.now i from path) result.answered result.path }
+    {
+        Left::lent(path, |path| {
+            bithoven_transfer(path, rows.listing, rows.table, i, from)
+        })
     }
 
     // What a walk by value leaves: the path that it came to, or after a refusal the one before.
@@ -112,17 +130,13 @@ impl<P: Print> Driver<'_, P> {
     }
 
     fn take(&self, i: usize, paths: Both) -> io::Result<Both> {
-        let lent = Left::lent(paths.lent, |path| {
-            bithoven_take(path, self.rows.listing, self.rows.table, i)
-        });
+        let lent = Left::taken(&self.rows, i, paths.lent);
         let walked = take_at(&self.rows, i, paths.held);
         self.step("take", i, lent, Left::held(paths.held, walked))
     }
 
     fn transfer(&self, i: usize, from: Both, paths: Both) -> io::Result<Both> {
-        let lent = Left::lent(paths.lent, |path| {
-            bithoven_transfer(path, self.rows.listing, self.rows.table, i, from.lent)
-        });
+        let lent = Left::transferred(&self.rows, i, from.lent, paths.lent);
         let walked = transfer_at(&self.rows, i, from.held, paths.held);
         self.step("transfer", i, lent, Left::held(paths.held, walked))
     }
@@ -163,14 +177,15 @@ impl<P: Print> Driver<'_, P> {
 }
 
 fn main(rt: HostRuntime) -> io::Result<()> {
-    let mut listing = Vec::new(rt.alloc());
-    rt.stdin().take(MOST_READ).read_to_end(&mut listing)?;
+    let mut buffer = [0u8; MOST_READ];
+    let length = read_full(&mut rt.stdin(), &mut buffer)?;
+    let listing = &buffer[..length];
     let mut work = [0u32; WORK_WORDS];
-    if read_listing(&listing, &mut work).is_err() {
+    if read_listing(listing, &mut work).is_err() {
         return println!(rt; "the listing is refused");
     }
     let rows = Rows {
-        listing: &listing,
+        listing,
         table: &work,
     };
     Driver { rt: &rt, rows }.drive()
