@@ -1,5 +1,5 @@
 -- The two sinks: a count, and a lent output.
-use Rattle.std.specs.Prelude.{ℕ, suc, ◌+◌, ◌%◌, ◌^◌, ◌≤◌, ◌<◌, List, [], ◌∷◌, ◌++◌, ◌≡◌, length}
+use Rattle.std.specs.Prelude.{ℕ, suc, ◌+◌, ◌-◌, ◌^◌, min, ◌≤◌, ◌<◌, List, [], ◌∷◌, ◌++◌, ◌≡◌, length}
 use Rattle.std.proofs.Common.{ap, ap₂, ◌∙◌, arith, length-append}
 use Rattle.std.proofs.Math.Seq.{length-sets}
 use Rattle.std.proofs.Math.ListN.{set}
@@ -8,9 +8,9 @@ use Rattle.output.specs.declared.Counter.{Counter}
 use Rattle.output.specs.declared.Writer.{Writer}
 use Rattle.output.specs.Sink.{SinkLaws}
 
--- the count after a text: in 64 bits
+-- the count after a text: in 64 bits, of which it does not go past the largest number
 abbrev pub counted : Counter → List ℕ → Counter
-counted s text = record { length = (s.length + length text) % 2 ^ 64 }
+counted s text = record { length = min (s.length + length text) (2 ^ 64 - 1) }
 
 -- any text can be counted from a number of 64 bits on
 abbrev pub IsCount : Counter → List ℕ → Type 0

@@ -35,7 +35,7 @@ pub trait Sink {
         ensures { self.new ≡ after self.old (decimal x) };
 }
 
-// Counts the bytes of a text, in 64 bits, which hold the length of any report.
+// Counts the bytes of a text, in 64 bits, which hold the length of any report; past the largest number the count stays there.
 #[derive(Clone, Copy, PartialEq, Eq)]
 pub struct Counter {
     pub length: usize,
@@ -49,15 +49,15 @@ impl Sink for Counter {
     ghost laws = { counter_laws };
 
     fn put(&mut self, _b: u8) {
-        self.length = self.length.wrapping_add(1);
+        self.length = self.length.saturating_add(1);
     }
 
     fn put_all(&mut self, s: &[u8]) {
-        self.length = self.length.wrapping_add(s.len());
+        self.length = self.length.saturating_add(s.len());
     }
 
     fn put_decimal(&mut self, x: u32) {
-        self.length = self.length.wrapping_add(decimal_length(x));
+        self.length = self.length.saturating_add(decimal_length(x));
     }
 }
 
@@ -81,9 +81,10 @@ impl Sink for Writer<'_> {
     }
 
     fn put_all(&mut self, s: &[u8]) {
-        let end = self.at + s.len();
-        self.output[self.at..end].copy_from_slice(s);
-        self.at = end;
+        for (k, &b) in s.iter().enumerate() {
+            self.output[self.at + k] = b;
+        }
+        self.at += s.len();
     }
 
     fn put_decimal(&mut self, x: u32) {

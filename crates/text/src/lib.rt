@@ -108,13 +108,17 @@ impl<'a> Cursor<'a> {
     }
 }
 
-// The number that a digit stands for. What lies below the digits wraps around to far above them, so one comparison tells.
+// The number that a digit stands for. The byte is asked as 64 bits, so that what it stands for is computed once.
 #[tactic(auto, unfolding(crate::specs::Text::is_digit, crate::specs::Text::within))]
 pub fn digit(b: u8) -> Option<u64>
     ensures { result ≡ (if is_digit b then Some (b - 48) else None) }
 {
-    let n = u64::from(b).wrapping_sub(u64::from(b'0'));
-    if n < 10 { Some(n) } else { None }
+    let n = u64::from(b);
+    if (48 <= n) & (n <= 57) {
+        Some(n - 48)
+    } else {
+        None
+    }
 }
 
 // An ASCII letter, digit or underscore, tested without a branch.
