@@ -3,15 +3,16 @@ use Rattle.std.proofs.Common.{◌≡◌, refl, sym, ap, ◌∙◌, ℕ, zero, su
 use native.Mathlib.Nat.{sub-zero, sub-eq-zero_of_le}
 use Rattle.tree.specs.declared.Lines.{Lines}
 use Rattle.tree.specs.declared.Kind.{Kind}
-use Rattle.tree.specs.declared.Kind.TheVariants.{Expression, Factor, Block, Statement, Item, Declaration, Contract}
+use Rattle.tree.specs.declared.Kind.TheVariants.{Expression, Factor, Block, Statement, Item, Declaration, Contract, Other}
 use Rattle.tree.specs.declared.Left.{Left}
 use Rattle.tree.specs.declared.Form.{Form}
 use Rattle.reader.specs.Ast.{ExpressionLine, FactorLine, Line, CompileError}
 use Rattle.reader.specs.Ceilings.{max_lines, max_depth, max_block_depth, within_ceilings}
 use Rattle.reader.specs.Parts.{expression_part, factor_part}
 use Rattle.tree.specs.Table.{Asked, Found, Malformed, End, asked}
-use Rattle.tree.specs.Walk.{kind_from, kind_number, kind_of, form_of, form_part, has_room, below, fits_here, due_line, due, Walk, onward, each, parts_of, node, depth_of, deepest, finished}
+use Rattle.tree.specs.Walk.{kinds, kind_from, kind_number, kind_of, form_of, form_part, has_room, below, fits_here, due_line, due, Walk, onward, each, parts_of, node, depth_of, deepest, finished}
 use Rattle.std.proofs.lemmas.Bool.{and_parts}
+use Rattle.std.proofs.lemmas.List.{get_or_past}
 
 -- a kind is known by its number
 kind-from : (k : Kind) → kind_from (kind_number k) ≡ k
@@ -22,9 +23,14 @@ kind-from Statement = refl
 kind-from Item = refl
 kind-from Declaration = refl
 kind-from Contract = refl
+kind-from Other = refl
 
 same-kind : (j k : Kind) → kind_number j ≡ kind_number k → j ≡ k
 same-kind j k h = sym (kind-from j) ∙ ap kind_from h ∙ kind-from k
+
+-- a number past those of the kinds of line
+pub kind_past : (n : ℕ) → 7 ≤ n → Other ≡ kind_from n
+kind_past n h = sym (get_or_past kinds n Other h)
 
 -- each part of a line is among its deepest
 pub part-deepest : (f : Form) (left : Left) (m : ℕ) → depth_of (form_part f m) left ≤ deepest f left

@@ -3,7 +3,7 @@
 use Rattle.std.specs.Prelude.{ℕ, zero, suc, ◌+◌, ◌*◌, ◌-◌, Bool, true, false, ◌&&◌, List, [], ◌∷◌, Result, Ok, Err, max, ltb, eqb, get_or}
 use Rattle.tree.specs.declared.Lines.{Lines}
 use Rattle.tree.specs.declared.Kind.{Kind}
-use Rattle.tree.specs.declared.Kind.TheVariants.{Expression, Factor, Block, Statement, Item, Declaration, Contract}
+use Rattle.tree.specs.declared.Kind.TheVariants.{Expression, Factor, Block, Statement, Item, Declaration, Contract, Other}
 use Rattle.tree.specs.declared.Left.{Left}
 use Rattle.tree.specs.declared.Form.{Form}
 use Rattle.reader.specs.Ast.{Line, ErrorKind, CompileError, MalformedLine, UnexpectedLine, CeilingPassed, fault}
@@ -12,12 +12,13 @@ use Rattle.reader.specs.Ceilings.{max_lines, within_ceilings}
 pub use Rattle.reader.specs.Parts.{kind_of, count_of, part_kind}
 use Rattle.tree.specs.Table.{Asked, Found, Malformed, End, asked}
 
--- the kinds, in the order of their numbers
+-- the kinds of line, in the order of their numbers
 abbrev pub kinds : List Kind
 kinds = Expression ∷ Factor ∷ Block ∷ Statement ∷ Item ∷ Declaration ∷ Contract ∷ []
 
+-- the kind of a number; past these it is the one that no line has
 abbrev pub kind_from : ℕ → Kind
-kind_from n = get_or kinds n Contract
+kind_from n = get_or kinds n Other
 
 abbrev pub kind_number : Kind → ℕ
 kind_number Expression = 0
@@ -27,6 +28,7 @@ kind_number Statement = 3
 kind_number Item = 4
 kind_number Declaration = 5
 kind_number Contract = 6
+kind_number Other = 7
 
 -- what the walk asks of a line: its kind, how many parts it has, the kinds of the first and of the others, and whether it passes no ceiling of its own
 abbrev pub form_of : Line → Form
@@ -46,6 +48,7 @@ has_room Statement left = true
 has_room Item left = true
 has_room Declaration left = true
 has_room Contract left = true
+has_room Other left = true
 
 -- the levels left for its parts
 abbrev pub below : Kind → Left → Left
@@ -56,6 +59,7 @@ below Statement left = left
 below Item left = left
 below Declaration left = left
 below Contract left = left
+below Other left = left
 
 -- the number, from 1, of the line numbered i from 0; no line past the one after the last allowed is asked for
 unfoldable pub line_number : ℕ → ℕ

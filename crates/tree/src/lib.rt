@@ -25,7 +25,7 @@ pub struct Listed<'a> {
     pub ghost room: { HasRows table.now lines.count },
 }
 
-// The kinds of line, by where they may stand.
+// The kinds of line, by where they may stand, and one that no line has.
 #[derive(Clone, Copy, PartialEq, Eq)]
 pub enum Kind {
     Expression,
@@ -35,6 +35,28 @@ pub enum Kind {
     Item,
     Declaration,
     Contract,
+    Other,
+}
+
+// By its number.
+impl From<u32> for Kind {
+    ghost use Rattle.tree.specs.Walk.{kind_from};
+
+    ghost from_gives = { λ n k. k ≡ kind_from n };
+
+    #[tactic(auto, using(crate::proofs::Walk::kind_past))]
+    fn from(n: u32) -> Self {
+        match n {
+            0 => Kind::Expression,
+            1 => Kind::Factor,
+            2 => Kind::Block,
+            3 => Kind::Statement,
+            4 => Kind::Item,
+            5 => Kind::Declaration,
+            6 => Kind::Contract,
+            _ => Kind::Other,
+        }
+    }
 }
 
 // The ceilings.
