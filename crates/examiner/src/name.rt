@@ -63,6 +63,6 @@ pub fn name<'a>(listing: &'a [u8], work: &mut [u32], path: u32, position: u32) -
     let place = name_place(listing, work, path, position).ok().flatten();
     match place {
         Some(x) => x.of(listing),
-        None => &[],
+        None => &listing[..0],
     }
 }
