@@ -80,6 +80,7 @@ impl Sink for Writer<'_> {
         self.at += 1;
     }
 
+    // Byte by byte: with `copy_from_slice` the archive for C needs `memmove` from outside.
     fn put_all(&mut self, s: &[u8]) {
         for (k, &b) in s.iter().enumerate() {
             self.output[self.at + k] = b;

@@ -96,6 +96,7 @@ pub fn read_up_to<R: Read>(reader: &mut R, buffer: &mut [u8], size: usize) -> io
     ensures bound { ReadsAtMost result buffer.new }
     ensures size { IfOk result (λ n. n ≤ size) }
     ensures length { length buffer.new ≡ length buffer.old }
+    ensures past { drop size buffer.new ≡ drop size buffer.old }
     ensures bytes { IfOk result (λ n. Consumes (R.remaining reader.old) (R.remaining reader.new) (take n buffer.new)) }
     ensures end { IfOk result (λ n. size ≤ length buffer.old → n < size → IsAtEnd (R.remaining reader.new)) }
 {
@@ -109,6 +110,7 @@ pub fn read_up_to<R: Read>(reader: &mut R, buffer: &mut [u8], size: usize) -> io
 pub fn read_bytes<R: Read>(reader: &mut R, buffer: &mut [u8], size: usize) -> Result<(), ReadError>
     ensures size { OnOk result (size ≤ length buffer.new) }
     ensures length { length buffer.new ≡ length buffer.old }
+    ensures past { drop size buffer.new ≡ drop size buffer.old }
     ensures bytes { OnOk result (Consumes (R.remaining reader.old) (R.remaining reader.new) (take size buffer.new)) }
     ensures cut_short { IsErrOf result ReadError.CutShort → size ≤ length buffer.old → IfSome (R.remaining reader.old) (λ xs. length xs < size) }
 {
@@ -150,6 +152,7 @@ pub fn read_record<R: Read>(reader: &mut R, buffer: &mut [u8]) -> Result<Option<
     ensures ok { IfOk result (λ found. MatchOption found (IsAtEnd (R.remaining reader.old))
         (λ size. (size ≤ length buffer.new) × ReadsRecord (R.remaining reader.old) (R.remaining reader.new) (take size buffer.new))) }
     ensures length { length buffer.new ≡ length buffer.old }
+    ensures past { IfOk result (λ found. MatchOption found (buffer.new ≡ buffer.old) (λ size. drop size buffer.new ≡ drop size buffer.old)) }
     ensures cut_short { IsErrOf result ReadError.CutShort → IfSome (R.remaining reader.old) (λ xs. ¬ BeginsWithRecord (length buffer.old) xs) }
 {
     let Some(size) = read_head(reader, b'\n')? else {
