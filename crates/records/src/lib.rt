@@ -2,16 +2,19 @@
 // in five digits, the bytes, and byte 10.
 #![tactic(auto)]
 
-ghost use Rattle.std.specs.Prelude.{◌≡◌, ◌+◌, ◌-◌, ◌^◌, min, if◌then◌else◌, IsOk, IsErrOf, ◌<◌, ◌≤◌, [], ◌∷◌, IfOk, IfSome, OnOk, MatchOption, length, take, drop};
+ghost use Rattle.std.specs.Prelude.{◌≡◌, ◌+◌, ◌-◌, ◌^◌, min, if◌then◌else◌, IsOk, IsErrOf, ◌<◌, ◌≤◌, [], ◌∷◌, IfOk, IfSome, OnOk, MatchOption, length, take, drop, vec_len};
 ghost use Rattle.std.specs.Io.{ReadsAtMost};
 ghost use Rattle.std.specs.Io.KnownBytes.{Consumes, IsAtEnd};
 ghost use Rattle.records.specs.Bytes.{number_in, ReadsHead, ReadsRecord, BeginsWithHead, BeginsWithEnd, BeginsWithRecord};
 ghost use Rattle.ast.specs.Tree.{number};
-ghost use Rattle.records.specs.declared.ReadError.TheVariants.{Io};
+ghost use Rattle.std.specs.Iterator.{at_most};
+ghost use Rattle.records.specs.declared.ReadError.TheVariants.{CutShort, Io};
+ghost use Rattle.records.specs.Records.{records_input, records_left, records_longest};
 ghost use Rattle.records.specs.Wrong.{wrong_in};
 
 use ast::CompileError;
 use rows::WORK_WORDS;
+use std::alloc::Global;
 use std::error::Error;
 use std::io::Read;
 use std::{fmt, io};
@@ -161,6 +164,88 @@ pub fn read_record<R: Read>(reader: &mut R, buffer: &mut [u8]) -> Result<Option<
     read_bytes(reader, buffer, size)?;
     read_end(reader)?;
     Ok(Some(size))
+}
+
+// The next `size` bytes, at most `longest`, in memory from the heap.
+fn read_vec<R: Read>(
+    reader: &mut R,
+    alloc: Global,
+    size: usize,
+    longest: usize,
+) -> Result<Vec<u8>, ReadError>
+    ensures size { IfOk result (λ bytes. (vec_len bytes ≡ size) × (size ≤ longest)) }
+    ensures bytes { IfOk result (λ bytes. Consumes (R.remaining reader.old) (R.remaining reader.new) bytes.items) }
+    ensures cut_short { IsErrOf result ReadError.CutShort → size ≤ longest → IfSome (R.remaining reader.old) (λ xs. length xs < size) }
+{
+    if size > longest {
+        return Err(ReadError::CutShort);
+    }
+    let mut bytes = vec![in alloc; 0; size].map_err(io::Error::from)?;
+    read_bytes(reader, &mut bytes, size)?;
+    Ok(bytes)
+}
+
+// The next record's bytes, at most `longest`, in memory from the heap; none at the input's end.
+fn read_vec_record<R: Read>(
+    reader: &mut R,
+    alloc: Global,
+    longest: usize,
+) -> Result<Option<Vec<u8>>, ReadError>
+    ensures ok { IfOk result (λ found. MatchOption found (IsAtEnd (R.remaining reader.old))
+        (λ bytes. ReadsRecord (R.remaining reader.old) (R.remaining reader.new) bytes.items)) }
+    ensures longest { IfOk result (λ found. IfSome found (λ bytes. vec_len bytes ≤ longest)) }
+    ensures cut_short { IsErrOf result ReadError.CutShort → IfSome (R.remaining reader.old) (λ xs. ¬ BeginsWithRecord longest xs) }
+{
+    let bytes = match read_head(reader, b'\n')? {
+        Some(size) => read_vec(reader, alloc, size, longest)?,
+        None => return Ok(None),
+    };
+    read_end(reader).map(|()| Some(bytes))
+}
+
+// The records of an input, one after another, each in memory from the heap. No program here uses it.
+#[derive(Drop)]
+pub struct Records<R> {
+    input: R,
+    alloc: Global,
+    longest: usize,
+    turns: u64,
+}
+
+impl<R> Records<R> {
+    // None is to have more bytes than `longest`. Nothing says that an input ends, so the records are counted down.
+    pub fn new(alloc: Global, input: R, longest: usize) -> Records<R>
+        ensures input { records_input result ≡ input }
+        ensures longest { records_longest result ≡ longest }
+        ensures left { records_left result ≡ 2 ^ 64 - 1 }
+    {
+        Records {
+            input,
+            alloc,
+            longest,
+            turns: u64::MAX,
+        }
+    }
+}
+
+impl<R: Read> Iterator for Records<R>
+where
+    R: Drop,
+{
+    type Item = Result<Vec<u8>, ReadError>;
+
+    ghost next_gives = { λ s r t. (records_longest t ≡ records_longest s)
+        × MatchOption r (0 < records_left s → IsAtEnd (R.remaining (records_input s))) (λ item.
+        IfOk item (λ bytes. ReadsRecord (R.remaining (records_input s)) (R.remaining (records_input t)) bytes.items)
+        × (IsErrOf item CutShort
+        → IfSome (R.remaining (records_input s)) (λ xs. ¬ BeginsWithRecord (records_longest s) xs))) };
+
+    ghost remaining = { λ s. at_most (records_left s) };
+
+    fn next(&mut self) -> Option<Result<Vec<u8>, ReadError>> {
+        self.turns = self.turns.checked_sub(1)?;
+        read_vec_record(&mut self.input, self.alloc, self.longest).transpose()
+    }
 }
 
 // Prints the index of a record that is cut short, if that is why reading came to an end.

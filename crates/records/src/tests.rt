@@ -1,4 +1,4 @@
-use crate::{ReadError, read_bytes, read_record, read_up_to};
+use crate::{ReadError, Records, read_bytes, read_record, read_up_to};
 use std::test::Fail;
 
 // Two records, of three bytes and of none, and then the input ends.
@@ -28,6 +28,31 @@ fn records_are_cut_short(rt: HostRuntime) {
                 Err(ReadError::CutShort)
             )
         );
+    }
+}
+
+// The same records, each given in memory of its own.
+#[test]
+fn records_are_given(rt: HostRuntime) -> Result<(), Fail> {
+    let mut records = Records::new(rt.alloc(), &b"00003\nabc\n00000\n\n"[..], 3);
+    let first = records.next().transpose()?;
+    assert!(rt; first.is_some_and(|bytes| bytes.as_slice() == b"abc".as_slice()));
+    let second = records.next().transpose()?;
+    assert!(rt; second.is_some_and(|bytes| bytes.is_empty()));
+    assert!(rt; records.next().is_none());
+    Ok(())
+}
+
+#[test]
+fn records_given_are_cut_short(rt: HostRuntime) {
+    for input in [
+        &b"00004\nabcd\n"[..],
+        b"00003\nabcd",
+        b"00003\nab",
+        b"0003\nabc\n",
+    ] {
+        let mut records = Records::new(rt.alloc(), input, 3);
+        assert!(rt; matches!(records.next(), Some(Err(ReadError::CutShort))));
     }
 }
 
