@@ -238,7 +238,10 @@ where
         × MatchOption r (0 < records_left s → IsAtEnd (R.remaining (records_input s))) (λ item.
         IfOk item (λ bytes. ReadsRecord (R.remaining (records_input s)) (R.remaining (records_input t)) bytes.items)
         × (IsErrOf item CutShort
-        → IfSome (R.remaining (records_input s)) (λ xs. ¬ BeginsWithRecord (records_longest s) xs))) };
+        → IfSome (R.remaining (records_input s)) (λ xs. ¬ BeginsWithRecord (records_longest s) xs))
+        × IfOk item (λ bytes. vec_len bytes ≤ records_longest s)
+        × (0 < records_left s))
+        × (records_left t ≡ records_left s - 1) };
 
     ghost remaining = { λ s. at_most (records_left s) };
 
